@@ -1,0 +1,9 @@
+pub mod Graph
+pub mod Elements
+pub mod Molecule
+pub mod QueryGraph
+pub mod Name
+pub mod Passes
+pub mod Embedding
+pub mod History
+pub mod Hits

@@ -1,0 +1,144 @@
+ghost use Rattle.std.specs.Prelude.{◌≡◌, ℕ, ◌≤◌, ◌<◌, ◌↔◌, IsTrue, IsSome, IfSome, All, AllPairs, length, slice_index_or};
+ghost use Rattle.htss_defs.specs.Molecule.{IsAtom, IsBond, IsMolecule, Molecule, AreBondsApart, bond_ends};
+
+use crate::graph::{Ends, are_ends, joins};
+use std::marker::Model;
+
+/// An atom of a molecule: the element is 1 to 118, the charge -15 to 15, the mass 0 (not given) to 999.
+#[derive(Clone, Copy, Debug, PartialEq, Eq)]
+pub struct Atom {
+    pub element: u8,
+    pub charge: i8,
+    pub mass: u16,
+}
+
+/// A bond of a molecule. Places count from 1, the type is 1 to 4, and `ring` says whether it is a ring bond where the
+/// molecule is marked.
+#[derive(Clone, Copy, Debug, PartialEq, Eq)]
+pub struct Bond {
+    pub first: u16,
+    pub second: u16,
+    pub kind: u8,
+    pub ring: bool,
+}
+
+impl Bond {
+    /// The places that the bond joins.
+    pub fn ends(self) -> Ends
+        ensures { result ≡ bond_ends self }
+    {
+        Ends {
+            first: self.first,
+            second: self.second,
+        }
+    }
+}
+
+/// A molecule of 1 to 999 atoms and at most 999 bonds: contracts see its two lists.
+#[derive(Debug, Drop)]
+pub struct Mol {
+    atoms: Vec<Atom>,
+    bonds: Vec<Bond>,
+}
+
+impl Model for Mol {
+    ghost Value = { Molecule };
+
+    ghost view = { λ m. record { atoms = m.atoms.items; bonds = m.bonds.items } };
+
+    ghost invariant = { λ m. IsMolecule (record { atoms = m.atoms.items; bonds = m.bonds.items }) };
+}
+
+impl Mol {
+    /// The molecule of these lists, or `None` exactly where they break a rule of molecules. It takes no memory.
+    pub fn new(atoms: Vec<Atom>, bonds: Vec<Bond>) -> Option<Mol>
+        ensures valid { IsSome result ↔ IsMolecule (record { atoms = atoms.items; bonds = bonds.items }) }
+        ensures value { IfSome result (λ m. m ≡ record { atoms = atoms.items; bonds = bonds.items }) }
+    {
+        if is_molecule(&atoms, &bonds) {
+            Some(Mol { atoms, bonds })
+        } else {
+            None
+        }
+    }
+
+    /// The atoms.
+    pub fn atoms(&self) -> &[Atom]
+        ensures items { result.now ≡ self.now.atoms }
+        ensures valid { IsMolecule self.now }
+    {
+        &self.atoms
+    }
+
+    /// The bonds.
+    pub fn bonds(&self) -> &[Bond]
+        ensures items { result.now ≡ self.now.bonds }
+        ensures valid { IsMolecule self.now }
+    {
+        &self.bonds
+    }
+}
+
+fn is_molecule(atoms: &[Atom], bonds: &[Bond]) -> bool
+    ensures { IsTrue result ↔ IsMolecule (record { atoms = atoms.now; bonds = bonds.now }) }
+{
+    !atoms.is_empty()
+        && atoms.len() <= 999
+        && bonds.len() <= 999
+        && are_atoms(atoms)
+        && are_bonds(bonds, atoms.len())
+        && are_apart(bonds)
+}
+
+fn are_atoms(atoms: &[Atom]) -> bool
+    ensures { IsTrue result ↔ All IsAtom atoms.now }
+{
+    atoms.iter().all(|atom| is_atom(*atom))
+}
+
+fn is_atom(atom: Atom) -> bool
+    ensures { IsTrue result ↔ IsAtom atom }
+{
+    1 <= atom.element
+        && atom.element <= 118
+        && -15 <= atom.charge
+        && atom.charge <= 15
+        && atom.mass <= 999
+}
+
+fn are_bonds(bonds: &[Bond], atoms: usize) -> bool
+    ensures { IsTrue result ↔ All (IsBond atoms) bonds.now }
+{
+    bonds.iter().all(|bond| is_bond(*bond, atoms))
+}
+
+fn is_bond(bond: Bond, atoms: usize) -> bool
+    ensures { IsTrue result ↔ IsBond atoms bond }
+{
+    are_ends(bond.ends(), atoms) && 1 <= bond.kind && bond.kind <= 4
+}
+
+fn are_apart(bonds: &[Bond]) -> bool
+    ensures { IsTrue result ↔ AllPairs AreBondsApart bonds.now }
+{
+    for i in 0..bonds.len() {
+        if !is_new(bonds, i) {
+            return false;
+        }
+    }
+    true
+}
+
+// Whether the bond at i joins another pair than each bond before it.
+fn is_new(bonds: &[Bond], i: usize) -> bool
+    requires { i < length bonds.now }
+    ensures { IsTrue result ↔ ((k : ℕ) (d : _) → k < i → AreBondsApart (slice_index_or bonds.now k d) (slice_index_or bonds.now i d)) }
+{
+    let bond = bonds[i];
+    for k in 0..i {
+        if joins(bonds[k].ends(), bond.first, bond.second) {
+            return false;
+        }
+    }
+    true
+}
