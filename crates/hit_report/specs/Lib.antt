@@ -1,0 +1,2 @@
+pub mod HitLines
+pub mod Appends
