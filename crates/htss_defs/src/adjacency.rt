@@ -1,17 +1,18 @@
 // The bonds at each place of a graph, in arrays of a fixed size.
-ghost use Rattle.std.specs.Prelude.{◌≡◌, ℕ, ◌+◌, ◌-◌, ◌*◌, ◌<◌, ◌≤◌, ◌↔◌, ◌∷◌, ◌++◌, [], true, false, length, All, IsTrue, IfSome, IfNone, slice_set, slice_index};
+ghost use Rattle.std.specs.Prelude.{◌≡◌, ℕ, ◌*◌, ◌<◌, ◌≤◌, ◌↔◌, [], true, false, length};
+ghost use Rattle.std.specs.Prelude.{All, IsTrue, IfSome, IfNone};
 ghost use Rattle.htss_defs.specs.Graph.{AreEnds, AreApart, joins};
-ghost use Rattle.htss_defs.specs.Adjacency.{IsGraph, JoinsAt, IsLastLink, place_of_end};
+ghost use Rattle.htss_defs.specs.Adjacency.{IsGraph, JoinsAt, IsLastLink, IsLinkBefore, with_bond};
 
 use crate::graph::{Ends, joins};
 use arrayvec::ArrayVec;
 use std::marker::Model;
 
-/// A graph of at most 999 atoms and 999 bonds, with the bonds at each place in a chain. It takes no memory of the heap.
-/// Contracts see the number of atoms and the list of bonds.
+/// A graph of at most 999 atoms and 999 bonds, with the bonds at each place in a chain: it takes
+/// no memory. Contracts see the number of atoms and the list of bonds.
 ///
-/// A chain is walked by links: a link names an end of a bond, and 0 names none. The bond of a link is `(link - 1) / 2`,
-/// counted from 0.
+/// A chain is walked by links, from the last. A link names an end of a bond, and 0 names none. The
+/// bond of a link is `(link - 1) / 2`, counted from 0.
 #[derive(Drop)]
 pub struct Adjacency {
     atoms: u16,
@@ -25,15 +26,14 @@ pub struct Adjacency {
 }
 
 impl Model for Adjacency {
-    ghost use Rattle.std.specs.Prelude.{◌*◌, length};
     ghost use Rattle.htss_defs.specs.Graph.{Graph};
-    ghost use Rattle.htss_defs.specs.Adjacency.{IsGraph, AreChains};
+    ghost use Rattle.htss_defs.specs.Adjacency.{IsAdjacency};
 
     ghost Value = { Graph };
 
     ghost view = { λ a. record { atoms = a.atoms; bonds = a.ends.items } };
 
-    ghost invariant = { λ a. IsGraph (record { atoms = a.atoms; bonds = a.ends.items }) × AreChains a.atoms a.ends.items (2 * length a.ends.items) a.last a.before };
+    ghost invariant = { λ a. IsAdjacency a.atoms a.ends.items a.last a.before };
 }
 
 impl Adjacency {
@@ -67,7 +67,7 @@ impl Adjacency {
     pub fn add(&mut self, ends: Ends)
         requires ends { AreEnds self.old.atoms ends }
         requires room { length self.old.bonds < 999 }
-        ensures { self.new ≡ record { atoms = self.old.atoms; bonds = self.old.bonds ++ ends ∷ [] } }
+        ensures { self.new ≡ with_bond self.old ends }
     {
         let end = 2 * self.ends.len();
         let first = ends.first as usize;
@@ -86,7 +86,7 @@ impl Adjacency {
         requires ends { AreEnds self.old.atoms ends }
         requires room { length self.old.bonds < 999 }
         ensures apart { IsTrue result ↔ All (λ e. AreApart e ends) self.old.bonds }
-        ensures added { result ≡ true → self.new ≡ record { atoms = self.old.atoms; bonds = self.old.bonds ++ ends ∷ [] } }
+        ensures added { result ≡ true → self.new ≡ with_bond self.old ends }
         ensures same { result ≡ false → self.new ≡ self.old }
     {
         if self.find(ends.first, ends.second).is_some() {
@@ -112,8 +112,8 @@ impl Adjacency {
         self.ends.as_slice()
     }
 
-    /// A bond that joins the two places, counted from 0, or `None` exactly where there is none. It walks the shorter of the
-    /// two chains.
+    /// A bond that joins the two places, counted from 0, or `None` exactly where there is none. It
+    /// walks the shorter of the two chains.
     pub fn find(&self, x: u16, y: u16) -> Option<u16>
         ensures some { IfSome result (λ k. JoinsAt self.now k x y) }
         ensures none { IfNone result (All (λ e. joins e x y ≡ false) self.now.bonds) }
@@ -158,7 +158,7 @@ impl Adjacency {
     pub fn link_before(&self, link: u16) -> u16
         requires some { 0 < link }
         requires within { link ≤ 2 * length self.now.bonds }
-        ensures { IsLastLink self.now.bonds (place_of_end self.now.bonds (link - 1)) (link - 1) result }
+        ensures { IsLinkBefore self.now.bonds link result }
     {
         self.before[link as usize - 1]
     }
