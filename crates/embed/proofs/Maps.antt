@@ -44,10 +44,10 @@ Extends-from : (q : QueryGraph) (m : Molecule) (f : List ℕ) (p : ℕ) → may_
 Extends-from q m f p may =
     let outer = and_parts _ _ may in
     let inner = and_parts _ _ outer.0 in
-    record { free = not-true _ inner.0; atom = inner.1; bonds = outer.1 }
+    record { free = not-true _ inner.1; atom = inner.0; bonds = outer.1 }
 
 may_extend-from : (q : QueryGraph) (m : Molecule) (f : List ℕ) (p : ℕ) → Extends q m f p → may_extend q m f p ≡ true
-may_extend-from q m f p e = and_from _ _ (and_from _ _ (not_from_false _ e.free) e.atom) e.bonds
+may_extend-from q m f p e = and_from _ _ (and_from _ _ e.atom (not_from_false _ e.free)) e.bonds
 
 eqb-not-true : (a b : ℕ) → a ≡ b → not (eqb a b) ≡ true → ⊥
 eqb-not-true a b same differ = grind (arith, eq-eqb a b same)

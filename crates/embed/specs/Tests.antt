@@ -31,8 +31,8 @@ bond_keeps m k map b = not (max b.first b.second == k) || bond_lands m b (place_
 -- the next atom of the query may stand at p, where the atoms before it stand as map says
 abbrev pub may_extend : QueryGraph → Molecule → List ℕ → ℕ → Bool
 may_extend q m map p =
-    not (list_any (λ x. x == p) map)
-    && passes (slice_get q.atoms (length map)) (at_place m.atoms p)
+    passes (slice_get q.atoms (length map)) (at_place m.atoms p)
+    && not (list_any (λ x. x == p) map)
     && list_all (bond_keeps m (length map + 1) (map ++ p ∷ [])) q.bonds
 
 -- a place for each atom of the query, no place twice, and all tests but those of topology hold

@@ -81,7 +81,8 @@ impl Mol {
 
     /// Makes the adjacency that of the molecule, whatever it was.
     pub fn link(&self, adjacency: &mut Adjacency)
-        ensures { adjacency.new ≡ molecule_graph self.now }
+        ensures graph { adjacency.new ≡ molecule_graph self.now }
+        ensures valid { IsMolecule self.now }
     {
         adjacency.restart(self.atoms.len() as u16);
         for bond in &self.bonds {

@@ -96,7 +96,8 @@ impl Query {
 
     /// Makes the adjacency that of the query, whatever it was.
     pub fn link(&self, adjacency: &mut Adjacency)
-        ensures { adjacency.new ≡ query_shape self.now }
+        ensures graph { adjacency.new ≡ query_shape self.now }
+        ensures valid { IsQuery self.now }
     {
         adjacency.restart(self.atoms.len() as u16);
         for bond in &self.bonds {

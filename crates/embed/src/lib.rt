@@ -1,0 +1,9 @@
+//! The least embedding of a query in a molecule.
+#![tactic(auto)]
+
+mod extend;
+mod matcher;
+mod search;
+mod target;
+
+pub use matcher::{Matcher, first_map};
