@@ -1,5 +1,5 @@
 -- The bonds of the query at its next atom are all that have to be tested.
-use Rattle.std.proofs.Common.{◌≡◌, ℕ, ◌+◌, ◌<◌, ◌⊎◌, Bool, true, false, not, max, List, [], ◌∷◌, ◌++◌, length, get_or, map, eqb, sym, ap, ◌∙◌, inl, inr, arith}
+use Rattle.std.proofs.Common.{◌≡◌, ℕ, ◌+◌, ◌<◌, ◌⊎◌, Bool, true, false, not, max, List, length, get_or, map, eqb, sym, ap, ◌∙◌, inl, inr, arith}
 use Rattle.std.specs.List.{list_all}
 use Rattle.std.proofs.lemmas.Bool.{cases_eq, ne_eqb, not_from_false, or_left}
 use Rattle.std.proofs.lemmas.List.{get_or-map, length-map, get_or_default}
@@ -11,25 +11,25 @@ use Rattle.htss_defs.specs.Graph.{Graph}
 use Rattle.htss_defs.specs.Molecule.{Molecule}
 use Rattle.htss_defs.specs.QueryGraph.{QueryGraph, query_bond_ends, query_shape}
 use Rattle.htss_defs.proofs.Chains.{Walked, Walked-all}
-use Rattle.embed.specs.Tests.{bond_keeps}
+use Rattle.embed.specs.Tests.{bond_keeps, bonds_keep}
 
 abbrev pub no_bond : QueryBond
 no_bond = record { first = 0; second = 0; kind = 0; topology = 0; ring = false }
 
 -- bond k of the query keeps its test where the next atom stands at p
 abbrev pub KeepsAt : Molecule → List ℕ → ℕ → List QueryBond → ℕ → Type 0
-KeepsAt m map p bonds k = (d : QueryBond) → bond_keeps m (length map + 1) (map ++ p ∷ []) (get_or bonds k d) ≡ true
+KeepsAt m map p bonds k = (d : QueryBond) → bond_keeps m map p (get_or bonds k d) ≡ true
 
 pub KeepsAt-of : (m : Molecule) (f : List ℕ) (p : ℕ) (bonds here : List QueryBond) (k : ℕ) (d : QueryBond) (answer : Bool) → here ≡ bonds → k < length bonds
-    → answer ≡ bond_keeps m (length f + 1) (f ++ p ∷ []) (get_or here k d) → answer ≡ true → KeepsAt m f p bonds k
+    → answer ≡ bond_keeps m f p (get_or here k d) → answer ≡ true → KeepsAt m f p bonds k
 KeepsAt-of m f p bonds here k d answer same within answered kept e =
-    let test : QueryBond → Bool = bond_keeps m (length f + 1) (f ++ p ∷ []) in
+    let test : QueryBond → Bool = bond_keeps m f p in
     ap test (get_or_default bonds k e d within) ∙ ap (λ (bs : List QueryBond). test (get_or bs k d)) (sym same) ∙ sym answered ∙ kept
 
 pub one-fails : (m : Molecule) (f : List ℕ) (p : ℕ) (bonds here : List QueryBond) (k : ℕ) (d : QueryBond) (answer : Bool) → here ≡ bonds → k < length bonds
-    → answer ≡ bond_keeps m (length f + 1) (f ++ p ∷ []) (get_or here k d) → answer ≡ false → list_all (bond_keeps m (length f + 1) (f ++ p ∷ [])) bonds ≡ false
+    → answer ≡ bond_keeps m f p (get_or here k d) → answer ≡ false → list_all (bond_keeps m f p) bonds ≡ false
 one-fails m f p bonds here k d answer same within answered failed =
-    let test : QueryBond → Bool = bond_keeps m (length f + 1) (f ++ p ∷ []) in
+    let test : QueryBond → Bool = bond_keeps m f p in
     list_all_at test bonds k d within (ap (λ (bs : List QueryBond). test (get_or bs k d)) (sym same) ∙ sym answered ∙ failed)
 
 pub length-shape : (q : QueryGraph) (g : Graph) → g ≡ query_shape q → length g.bonds ≡ length q.bonds
@@ -42,8 +42,8 @@ larger a b n is = elim (cases_eq a n) [
 ]
 
 pub all-keep : (q : QueryGraph) (m : Molecule) (g : Graph) (f : List ℕ) (p link : ℕ) → g ≡ query_shape q → Walked g.bonds (length f + 1) link (KeepsAt m f p q.bonds) → link ≡ 0
-    → list_all (bond_keeps m (length f + 1) (f ++ p ∷ [])) q.bonds ≡ true
-all-keep q m g f p link is walked end = list_all-from_AllPass (bond_keeps m (length f + 1) (f ++ p ∷ [])) q.bonds (λ k d within.
+    → bonds_keep q m f p ≡ true
+all-keep q m g f p link is walked end = list_all-from_AllPass (bond_keeps m f p) q.bonds (λ k d within.
     let b : QueryBond = get_or q.bonds k d in
     let next : ℕ = length f + 1 in
     let e : Ends = query_bond_ends d in

@@ -1,7 +1,7 @@
 -- How maps of the first atoms of a query grow into embeddings.
 use Rattle.std.proofs.Common.{◌≡◌, ◌≢◌, ℕ, zero, suc, ◌+◌, ◌-◌, ◌<◌, ◌≤◌, Bool, true, false, not, eqb, max, List, [], ◌∷◌, ◌++◌, length, get_or, take, All, refl, sym, ap, ◌∙◌, subst, inl, inr, arith, IsTrue}
 use Rattle.std.specs.Prelude.{slice_get, slice_index, Some, None, Option, IsSome}
-use Rattle.std.specs.List.{list_any, list_all}
+use Rattle.std.specs.List.{list_any}
 use Rattle.std.proofs.lemmas.Bool.{and_parts, and_from, not-true, not_from_false, or_cases, or_left, or_right, cases_eq, eq-eqb, ne_eqb, cases_order, cases_lt}
 use Rattle.std.proofs.lemmas.List.{take_more, length_push, take-take, get_or_default, take_all, take_at, get_or-take, get_or_push, get_or_append_left}
 use Rattle.std.proofs.lemmas.List.Sums.{AllPass-from_list_all, list_all-from_AllPass}
@@ -13,7 +13,7 @@ use Rattle.htss_defs.specs.declared.query.QueryBond.{QueryBond}
 use Rattle.htss_defs.specs.Molecule.{Molecule}
 use Rattle.htss_defs.specs.QueryGraph.{QueryGraph, IsQuery, IsQueryBond}
 use Rattle.htss_defs.specs.Embedding.{IsFirstOrSame, place_of}
-use Rattle.embed.specs.Tests.{passes, at_place, bond_lands, bond_keeps, may_extend}
+use Rattle.embed.specs.Tests.{passes, at_place, bond_lands, bond_keeps, bonds_keep, may_extend}
 use Rattle.embed.specs.Partial.{IsPartial, GoesOn, IsFirstFrom, IsStuck, NoneBy}
 use Rattle.embed.proofs.Order.{IsFirstOrSame-same, IsFirstOrSame-at}
 
@@ -38,7 +38,7 @@ IsPartial-empty q m f query empty = subst (λ (g : List ℕ). IsPartial q m g) (
 record Extends (q : QueryGraph) (m : Molecule) (f : List ℕ) (p : ℕ) : Type 0 where
   free : list_any (λ x. eqb x p) f ≡ false
   atom : passes (slice_get q.atoms (length f)) (at_place m.atoms p) ≡ true
-  bonds : list_all (bond_keeps m (length f + 1) (f ++ p ∷ [])) q.bonds ≡ true
+  bonds : bonds_keep q m f p ≡ true
 
 Extends-from : (q : QueryGraph) (m : Molecule) (f : List ℕ) (p : ℕ) → may_extend q m f p ≡ true → Extends q m f p
 Extends-from q m f p may =
@@ -64,7 +64,7 @@ bonds-push : (q : QueryGraph) (m : Molecule) (f : List ℕ) (p : ℕ) → IsQuer
     → All (λ b. b.first ≤ length (f ++ p ∷ []) → b.second ≤ length (f ++ p ∷ []) → IsTrue (bond_lands m b (place_of (f ++ p ∷ []) b.first) (place_of (f ++ p ∷ []) b.second))) q.bonds
 bonds-push q m f p query partial extends k d within first second =
     let b : QueryBond = get_or q.bonds k d in
-    let kept : bond_keeps m (length f + 1) (f ++ p ∷ []) b ≡ true = AllPass-from_list_all _ q.bonds extends.bonds k d within in
+    let kept : bond_keeps m f p b ≡ true = AllPass-from_list_all _ q.bonds extends.bonds k d within in
     let valid : IsQueryBond (length q.atoms) b = query.each_bond k d within in
     let len = length_push f p in
     elim (cases_eq (max b.first b.second) (length f + 1)) [
@@ -176,7 +176,7 @@ may-from_embedding q m f h p query on more is =
     may_extend-from q m f p (record {
       free = list_any_none (λ x. eqb x p) f (λ k d within. ne_eqb (get_or f k d) p (λ same. e.apart k (length f) d within in_h (clash f h k d p within in_h on.begins is same)));
       atom = subst (λ (x : ℕ). IsTrue (passes (slice_get q.atoms (length f)) (at_place m.atoms x))) is (e.atoms (length f) in_h);
-      bonds = list_all-from_AllPass (bond_keeps m (length f + 1) (f ++ p ∷ [])) q.bonds (λ k d within.
+      bonds = list_all-from_AllPass (bond_keeps m f p) q.bonds (λ k d within.
           let b : QueryBond = get_or q.bonds k d in
           let valid : IsQueryBond (length q.atoms) b = query.each_bond k d within in
           elim (cases_eq (max b.first b.second) (length f + 1)) [

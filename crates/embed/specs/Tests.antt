@@ -24,16 +24,21 @@ passes (Some asked) (Some a) = atom_passes asked a
 abbrev pub bond_lands : Molecule → QueryBond → ℕ → ℕ → Bool
 bond_lands m asked x y = list_any (λ b. joins (bond_ends b) x y && kind_passes asked.kind b.kind) m.bonds
 
--- a bond of the query whose later end is atom k keeps its test
-abbrev pub bond_keeps : Molecule → ℕ → List ℕ → QueryBond → Bool
-bond_keeps m k map b = not (max b.first b.second == k) || bond_lands m b (place_of map b.first) (place_of map b.second)
+-- a bond of the query from its next atom to one before keeps its test, where the next atom stands at p
+abbrev pub bond_keeps : Molecule → List ℕ → ℕ → QueryBond → Bool
+bond_keeps m map p b =
+    not (max b.first b.second == length map + 1)
+    || bond_lands m b (place_of (map ++ p ∷ []) b.first) (place_of (map ++ p ∷ []) b.second)
+
+abbrev pub bonds_keep : QueryGraph → Molecule → List ℕ → ℕ → Bool
+bonds_keep q m map p = list_all (bond_keeps m map p) q.bonds
 
 -- the next atom of the query may stand at p, where the atoms before it stand as map says
 abbrev pub may_extend : QueryGraph → Molecule → List ℕ → ℕ → Bool
 may_extend q m map p =
     passes (slice_get q.atoms (length map)) (at_place m.atoms p)
     && not (list_any (λ x. x == p) map)
-    && list_all (bond_keeps m (length map + 1) (map ++ p ∷ [])) q.bonds
+    && bonds_keep q m map p
 
 -- a place for each atom of the query, no place twice, and all tests but those of topology hold
 pub record PassesAll (q : QueryGraph) (m : Molecule) (map : List ℕ) : Type 0 where

@@ -1,8 +1,10 @@
 // Whether a partial map may be extended by one place.
-ghost use Rattle.std.specs.Prelude.{◌≡◌, ℕ, ◌+◌, ◌<◌, ◌∷◌, ◌++◌, [], ◌==◌, length, slice_get, IfSome};
-ghost use Rattle.std.specs.List.{list_any, list_all};
+ghost use Rattle.std.specs.Prelude.{◌≡◌, ℕ, ◌<◌, ◌∷◌, ◌++◌, [], ◌==◌, length, slice_get};
+ghost use Rattle.std.specs.Prelude.{IfSome};
+ghost use Rattle.std.specs.List.{list_any};
 ghost use Rattle.htss_defs.specs.Embedding.{place_of};
-ghost use Rattle.embed.specs.Tests.{at_place, passes, bond_lands, bond_keeps, may_extend};
+ghost use Rattle.embed.specs.Tests.{at_place, passes, bond_lands, bond_keeps, bonds_keep};
+ghost use Rattle.embed.specs.Tests.{may_extend};
 
 use crate::target::Target;
 use htss_defs::{Atom, Mol, Query, QueryBond, atom_passes, kind_passes};
@@ -47,7 +49,7 @@ fn atom_at(mol: &Mol, p: u16) -> Option<Atom>
 // Walks the bonds of the query at its next atom.
 fn bonds_keep(target: &Target<'_>, map: &[u16], p: u16) -> bool
     requires { length map.now < length target.now.query.now.atoms }
-    ensures { result ≡ list_all (bond_keeps target.now.mol.now (length map.now + 1) (map.now ++ p ∷ [])) target.now.query.now.bonds }
+    ensures { result ≡ bonds_keep target.now.query.now target.now.mol.now map.now p }
 {
     let bonds = target.query.bonds();
     let mut link = target.asked.last_link(map.len() as u16 + 1);
@@ -62,7 +64,7 @@ fn bonds_keep(target: &Target<'_>, map: &[u16], p: u16) -> bool
 
 fn bond_keeps(target: &Target<'_>, map: &[u16], p: u16, asked: QueryBond) -> bool
     requires { length map.now < 64 }
-    ensures { result ≡ bond_keeps target.now.mol.now (length map.now + 1) (map.now ++ p ∷ []) asked }
+    ensures { result ≡ bond_keeps target.now.mol.now map.now p asked }
 {
     let next = map.len() as u16 + 1;
     asked.first.max(asked.second) != next

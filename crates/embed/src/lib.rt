@@ -5,5 +5,7 @@ mod extend;
 mod matcher;
 mod search;
 mod target;
+#[cfg(test)]
+mod tests;
 
 pub use matcher::{Matcher, first_map};

@@ -1,4 +1,4 @@
-// The search: the atoms of the query one after the other, each at the first place where it may stand.
+// The search: one atom of the query after the other, each at the first place where it may stand.
 ghost use Rattle.std.specs.Prelude.{◌≡◌, true, false};
 ghost use Rattle.embed.specs.Partial.{IsPartial, IsFirstFrom, IsStuck};
 
@@ -9,7 +9,8 @@ use arrayvec::ArrayVec;
 // Goes on from a map that keeps all tests. Where no embedding does, the map is as it was.
 pub fn search(target: &Target<'_>, map: &mut ArrayVec<u16, 64>) -> bool
     requires { IsPartial target.now.query.now target.now.mol.now map.old.items }
-    ensures found { result ≡ true → IsFirstFrom target.now.query.now target.now.mol.now map.old.items map.new.items }
+    ensures found { let target = target.now in
+        result ≡ true → IsFirstFrom target.query.now target.mol.now map.old.items map.new.items }
     ensures stuck { result ≡ false → IsStuck target.now.query.now target.now.mol.now map.old.items }
     ensures same { result ≡ false → map.new.items ≡ map.old.items }
 {
