@@ -1,6 +1,6 @@
 -- Graphs of atoms: the atoms are the places 1 to n, a bond joins two of them.
 -- (CTfile Formats, "The Ctab Block": a connection table is a list of atoms and a list of bonds between their numbers.)
-use Rattle.std.specs.Prelude.{◌≡◌, ◌≢◌, ℕ, zero, suc, ◌≤◌, List, Some, slice_get, Bool, false, true, IsTrue, ◌==◌, ◌&&◌, ◌||◌}
+use Rattle.std.specs.Prelude.{◌≡◌, ◌≢◌, ℕ, zero, suc, ◌≤◌, List, Some, slice_get, Bool, false, IsTrue, ◌==◌, ◌&&◌, ◌||◌}
 use Rattle.htss_defs.specs.declared.graph.Ends.{Ends}
 
 pub record Graph : Type 0 where

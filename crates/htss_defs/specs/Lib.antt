@@ -1,4 +1,5 @@
 pub mod Graph
+pub mod Adjacency
 pub mod Elements
 pub mod Molecule
 pub mod QueryGraph

@@ -1,7 +1,7 @@
 -- What a molecule is: atoms and bonds as a record has them.
 -- (CTfile Formats, "The Counts Line" for the numbers of atoms and bonds, "The Atom Block" for charge and mass,
 -- "The Bond Block" for the bond types 1 to 4. The ranges of charge and mass are this project's own profile.)
-use Rattle.std.specs.Prelude.{◌≡◌, ℕ, ◌≤◌, ◌≤ℤ◌, pos, negsuc, List, length, map, All, AllPairs}
+use Rattle.std.specs.Prelude.{ℕ, ◌≤◌, ◌≤ℤ◌, pos, negsuc, List, length, map, All, AllPairs}
 use Rattle.htss_defs.specs.declared.graph.Ends.{Ends}
 use Rattle.htss_defs.specs.declared.mol.Atom.{Atom}
 use Rattle.htss_defs.specs.declared.mol.Bond.{Bond}

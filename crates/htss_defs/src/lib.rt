@@ -1,6 +1,7 @@
 //! The public types of the registry, and the definitions that every contract cites.
 #![tactic(auto)]
 
+mod adjacency;
 mod elements;
 mod graph;
 mod history;
@@ -12,6 +13,7 @@ mod passes;
 mod query;
 mod record;
 
+pub use adjacency::Adjacency;
 pub use elements::SYMBOLS;
 pub use graph::{Ends, joins};
 pub use history::{Event, Hit};

@@ -1,7 +1,8 @@
-ghost use Rattle.std.specs.Prelude.{◌≡◌, ℕ, ◌≤◌, ◌<◌, ◌↔◌, IsTrue, IsSome, IfSome, All, AllPairs, length, slice_index_or};
-ghost use Rattle.htss_defs.specs.Molecule.{IsAtom, IsBond, IsMolecule, Molecule, AreBondsApart, bond_ends};
+ghost use Rattle.std.specs.Prelude.{◌≡◌, ℕ, ◌≤◌, ◌↔◌, IsTrue, IsSome, IfSome, All, AllPairs, length};
+ghost use Rattle.htss_defs.specs.Molecule.{IsAtom, IsBond, IsMolecule, Molecule, AreBondsApart, bond_ends, molecule_graph};
 
-use crate::graph::{Ends, are_ends, joins};
+use crate::adjacency::Adjacency;
+use crate::graph::{Ends, are_ends};
 use std::marker::Model;
 
 /// An atom of a molecule: the element is 1 to 118, the charge -15 to 15, the mass 0 (not given) to 999.
@@ -77,6 +78,17 @@ impl Mol {
     {
         &self.bonds
     }
+
+    /// Makes the adjacency that of the molecule, whatever it was.
+    pub fn link(&self, adjacency: &mut Adjacency)
+        ensures graph { adjacency.new ≡ molecule_graph self.now }
+        ensures valid { IsMolecule self.now }
+    {
+        adjacency.restart(self.atoms.len() as u16);
+        for bond in &self.bonds {
+            adjacency.add(bond.ends());
+        }
+    }
 }
 
 fn is_molecule(atoms: &[Atom], bonds: &[Bond]) -> bool
@@ -87,7 +99,7 @@ fn is_molecule(atoms: &[Atom], bonds: &[Bond]) -> bool
         && bonds.len() <= 999
         && are_atoms(atoms)
         && are_bonds(bonds, atoms.len())
-        && are_apart(bonds)
+        && are_apart(bonds, atoms.len() as u16)
 }
 
 fn are_atoms(atoms: &[Atom]) -> bool
@@ -118,25 +130,17 @@ fn is_bond(bond: Bond, atoms: usize) -> bool
     are_ends(bond.ends(), atoms) && 1 <= bond.kind && bond.kind <= 4
 }
 
-fn are_apart(bonds: &[Bond]) -> bool
+// Whether they join different pairs of places.
+fn are_apart(bonds: &[Bond], atoms: u16) -> bool
+    requires atoms { atoms ≤ 999 }
+    requires few { length bonds.now ≤ 999 }
+    requires each { All (IsBond atoms) bonds.now }
     ensures { IsTrue result ↔ AllPairs AreBondsApart bonds.now }
 {
-    for i in 0..bonds.len() {
-        if !is_new(bonds, i) {
-            return false;
-        }
-    }
-    true
-}
-
-// Whether the bond at i joins another pair than each bond before it.
-fn is_new(bonds: &[Bond], i: usize) -> bool
-    requires { i < length bonds.now }
-    ensures { IsTrue result ↔ ((k : ℕ) (d : _) → k < i → AreBondsApart (slice_index_or bonds.now k d) (slice_index_or bonds.now i d)) }
-{
-    let bond = bonds[i];
-    for k in 0..i {
-        if joins(bonds[k].ends(), bond.first, bond.second) {
+    let mut adjacency = Adjacency::new();
+    adjacency.restart(atoms);
+    for bond in bonds {
+        if !adjacency.add_new(bond.ends()) {
             return false;
         }
     }

@@ -1,7 +1,8 @@
-ghost use Rattle.std.specs.Prelude.{◌≡◌, ℕ, ◌≤◌, ◌<◌, ◌↔◌, IsTrue, IsSome, IfSome, All, AllPairs, length, slice_index_or};
-ghost use Rattle.htss_defs.specs.QueryGraph.{IsAtomTest, IsQueryAtom, IsQueryBond, IsQuery, QueryGraph, AreQueryBondsApart, query_bond_ends};
+ghost use Rattle.std.specs.Prelude.{◌≡◌, ℕ, ◌≤◌, ◌↔◌, IsTrue, IsSome, IfSome, All, AllPairs, length};
+ghost use Rattle.htss_defs.specs.QueryGraph.{IsAtomTest, IsQueryAtom, IsQueryBond, IsQuery, QueryGraph, AreQueryBondsApart, query_bond_ends, query_shape};
 
-use crate::graph::{Ends, are_ends, joins};
+use crate::adjacency::Adjacency;
+use crate::graph::{Ends, are_ends};
 use std::marker::Model;
 
 /// A set of elements: bit e stands for element e.
@@ -92,6 +93,17 @@ impl Query {
     {
         &self.bonds
     }
+
+    /// Makes the adjacency that of the query, whatever it was.
+    pub fn link(&self, adjacency: &mut Adjacency)
+        ensures graph { adjacency.new ≡ query_shape self.now }
+        ensures valid { IsQuery self.now }
+    {
+        adjacency.restart(self.atoms.len() as u16);
+        for bond in &self.bonds {
+            adjacency.add(bond.ends());
+        }
+    }
 }
 
 fn is_query(atoms: &[QueryAtom], bonds: &[QueryBond]) -> bool
@@ -102,7 +114,7 @@ fn is_query(atoms: &[QueryAtom], bonds: &[QueryBond]) -> bool
         && bonds.len() <= 999
         && atoms.iter().all(|atom| is_query_atom(*atom))
         && are_query_bonds(bonds, atoms.len())
-        && are_apart(bonds)
+        && are_apart(bonds, atoms.len() as u16)
 }
 
 fn is_query_atom(atom: QueryAtom) -> bool
@@ -132,25 +144,17 @@ fn is_query_bond(bond: QueryBond, atoms: usize) -> bool
     are_ends(bond.ends(), atoms) && 1 <= bond.kind && bond.kind <= 8 && bond.topology <= 2
 }
 
-fn are_apart(bonds: &[QueryBond]) -> bool
+// Whether they join different pairs of places.
+fn are_apart(bonds: &[QueryBond], atoms: u16) -> bool
+    requires atoms { atoms ≤ 999 }
+    requires few { length bonds.now ≤ 999 }
+    requires each { All (IsQueryBond atoms) bonds.now }
     ensures { IsTrue result ↔ AllPairs AreQueryBondsApart bonds.now }
 {
-    for i in 0..bonds.len() {
-        if !is_new(bonds, i) {
-            return false;
-        }
-    }
-    true
-}
-
-// Whether the bond at i joins another pair than each bond before it.
-fn is_new(bonds: &[QueryBond], i: usize) -> bool
-    requires { i < length bonds.now }
-    ensures { IsTrue result ↔ ((k : ℕ) (d : _) → k < i → AreQueryBondsApart (slice_index_or bonds.now k d) (slice_index_or bonds.now i d)) }
-{
-    let bond = bonds[i];
-    for k in 0..i {
-        if joins(bonds[k].ends(), bond.first, bond.second) {
+    let mut adjacency = Adjacency::new();
+    adjacency.restart(atoms);
+    for bond in bonds {
+        if !adjacency.add_new(bond.ends()) {
             return false;
         }
     }

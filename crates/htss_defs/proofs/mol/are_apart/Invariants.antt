@@ -1,7 +1,9 @@
-use Rattle.std.proofs.Common.{ℕ, ◌<◌, get_or}
-use Rattle.htss_defs.specs.Molecule.{AreBondsApart}
-use Rattle.htss_defs.specs.declared.mol.Bond.{Bond}
+use Rattle.std.proofs.Common.{◌≡◌, take, map, AllPairs}
+use Rattle.htss_defs.specs.Molecule.{bond_ends, AreBondsApart}
 use Rattle.htss_defs.proofs.mol.are_apart.Given as goal
 
-abbrev pub invariant-loop-i : goal.invariant-loop-i
-invariant-loop-i l = (j k : ℕ) (d : Bond) → j < k → k < l.i → AreBondsApart (get_or l.bonds j d) (get_or l.bonds k d)
+abbrev pub invariant-loop-bond : goal.invariant-loop-bond
+invariant-loop-bond l = record {
+  linked : l.adjacency ≡ record { atoms = l.atoms; bonds = map bond_ends (take l.bond-index l.bonds) };
+  apart : AllPairs AreBondsApart (take l.bond-index l.bonds);
+}

@@ -1,0 +1,10 @@
+pub mod Parts
+pub mod Numbers
+pub mod Symbols
+pub mod Texts
+pub mod Many
+pub mod Rows
+pub mod Law
+pub mod Loop
+pub mod Front
+pub mod Query

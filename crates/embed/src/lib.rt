@@ -1,0 +1,11 @@
+//! The least embedding of a query in a molecule.
+#![tactic(auto)]
+
+mod extend;
+mod matcher;
+mod search;
+mod target;
+#[cfg(test)]
+mod tests;
+
+pub use matcher::{Matcher, first_map};

@@ -1,0 +1,4 @@
+pub mod Publications
+pub mod Found
+pub mod Writing
+pub mod Causes

@@ -1,0 +1,78 @@
+// Why a command stopped, and the line that says so.
+ghost use Rattle.std.specs.Prelude.{◌≡◌, ◌≢◌, ℕ, ◌≤◌, ◌++◌, ◌∷◌, [], OnOk, OnErr};
+ghost use Rattle.std.specs.Io.KnownBytes.{append_known};
+ghost use Rattle.outside.specs.Causes.{Rose};
+ghost use Rattle.outside.specs.Written.{GrewByFront};
+ghost use Rattle.htss_main.specs.Outcomes.{line, status_of, stop_outcome, text_of};
+
+use outside::{Failed, Sink, write_whole};
+
+/// Why a command stopped. The name is that of the file.
+#[derive(Clone, Copy, Debug)]
+pub enum Stop<'a> {
+    /// The words are no command line.
+    Usage,
+    /// Memory ran out.
+    Memory,
+    /// A read failed.
+    Failed(&'a str),
+    /// There is no such file.
+    Absent(&'a str),
+    /// The file has more bytes than a file may have.
+    TooLarge(&'a str),
+    /// The file is not of the plain form.
+    NotPlain(&'a str),
+}
+
+/// The status of a stop: 2, 4, 6, 7, 8 or 9.
+pub fn status(stop: Stop<'_>) -> u8
+    ensures { result ≡ status_of (stop_outcome stop.entry) }
+{
+    match stop {
+        Stop::Usage => 2,
+        Stop::Failed(_) => 4,
+        Stop::Memory => 6,
+        Stop::Absent(_) => 7,
+        Stop::TooLarge(_) => 8,
+        Stop::NotPlain(_) => 9,
+    }
+}
+
+/// Writes the line of a stop. It takes no memory.
+pub fn write_stop<K: Sink>(out: &mut K, stop: Stop<'_>) -> Result<(), Failed>
+    ensures ok { OnOk result (K.written out.new
+        ≡ append_known (K.written out.old) (text_of (stop_outcome stop.entry))) }
+    ensures err { OnErr result (GrewByFront (K.written out.old) (K.written out.new)
+        (text_of (stop_outcome stop.entry))) }
+    ensures failed { OnErr result (Rose (K.faults out.old) (K.faults out.new)) }
+    ensures later { K.faults out.old ≤ K.faults out.new }
+{
+    match stop {
+        Stop::Usage => write_whole(out, b"stop 2 usage\n"),
+        Stop::Memory => write_whole(out, b"stop 6 memory\n"),
+        Stop::Failed(name) => write_named(out, b"stop 4 read ", name),
+        Stop::Absent(name) => write_named(out, b"stop 7 absent ", name),
+        Stop::TooLarge(name) => write_named(out, b"stop 8 large ", name),
+        Stop::NotPlain(name) => write_named(out, b"stop 9 notyet ", name),
+    }
+}
+
+// Writes a line that ends with a name.
+fn write_named<K: Sink>(out: &mut K, lead: &[u8], name: &str) -> Result<(), Failed>
+    ensures ok { OnOk result (K.written out.new
+        ≡ append_known (K.written out.old) (line (lead.now ++ name.now))) }
+    ensures err { OnErr result (GrewByFront (K.written out.old) (K.written out.new)
+        (line (lead.now ++ name.now))) }
+    ensures failed { OnErr result (Rose (K.faults out.old) (K.faults out.new)) }
+    ensures later { K.faults out.old ≤ K.faults out.new }
+{
+    match write_whole(out, lead) {
+        Ok(()) => {}
+        Err(failed) => return Err(failed),
+    }
+    match write_whole(out, name.as_bytes()) {
+        Ok(()) => {}
+        Err(failed) => return Err(failed),
+    }
+    write_whole(out, b"\n")
+}

@@ -1,0 +1,38 @@
+// The words of the command line.
+ghost use Rattle.std.specs.Prelude.{◌≡◌, ℕ, List, map, string_bytes};
+ghost use Rattle.std.specs.Option.{option_map};
+ghost use Rattle.htss_main.specs.Tasks.{command_task, is_file_word, task_of};
+
+/// What the words of a command line ask for.
+#[derive(Clone, Copy, Debug)]
+pub enum Command<'a> {
+    /// Finds the records of the SDfile into which the query embeds.
+    Find { sdf: &'a str, query: &'a str },
+}
+
+/// The command of the words after the program's name, or `None` exactly where they are no command line.
+pub fn read_words(words: &[String]) -> Option<Command<'_>>
+    ensures { option_map command_task result ≡ task_of (map string_bytes words.now) }
+{
+    let [command, sdf, query] = words else {
+        return None;
+    };
+    if command.as_str() == "find" && is_file_word(sdf.as_str()) && is_file_word(query.as_str()) {
+        Some(Command::Find {
+            sdf: sdf.as_str(),
+            query: query.as_str(),
+        })
+    } else {
+        None
+    }
+}
+
+// Whether the word is not empty and does not begin with `-`.
+fn is_file_word(word: &str) -> bool
+    ensures { result ≡ is_file_word word.now }
+{
+    match word.as_bytes() {
+        [] => false,
+        [first, ..] => *first != b'-',
+    }
+}
