@@ -4,7 +4,7 @@ ghost use Rattle.htss_defs.specs.QueryGraph.{AsksNoTopology};
 ghost use Rattle.htss_main.specs.FindText.{IsHitsText};
 
 use arrayvec::ArrayVec;
-use embed::first_map;
+use embed::Matcher;
 use hit_report::{push_count, push_hit};
 use htss_defs::{NamedMol, OutOfMemory, Query};
 use std::alloc::Global;
@@ -18,8 +18,9 @@ pub fn hits_text(alloc: Global, query: &Query, records: &[NamedMol]) -> Result<V
     let mut text = Vec::new(alloc);
     let mut count = 0;
     let mut map = ArrayVec::new();
+    let mut matcher = Matcher::new(query);
     for (i, record) in records.iter().enumerate() {
-        if first_map(query, &record.mol, &mut map) {
+        if matcher.first_map(&record.mol, &mut map) {
             let number = i as u32 + 1;
             push_hit(&mut text, number, map.as_slice(), record.name.bytes())?;
             count += 1;

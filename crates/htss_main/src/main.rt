@@ -4,6 +4,8 @@
 
 mod hits;
 mod stop;
+#[cfg(test)]
+mod tests;
 mod tool;
 mod top;
 mod words;

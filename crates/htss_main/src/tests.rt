@@ -8,11 +8,14 @@ use std::alloc::Global;
 use std::process::Abort;
 use std::test::Fail;
 
-const ETHANOL: &str = "ethanol\n\n\n  3  2  0  0  0  0  0  0  0  0999 V2000\n    0.0000    0.0000    0.0000 C   0  0\n    0.0000    0.0000    0.0000 C   0  0\n    0.0000    0.0000    0.0000 O   0  0\n  1  2  1  0\n  2  3  1  0\nM  END\n$$$$\n";
+const ETHANOL: &str =
+    "ethanol\n\n\n  3  2  0  0  0  0  0  0  0  0999 V2000\n    0.0000    0.0000    0.0000 C   0  0\n    0.0000    0.0000    0.0000 C   0  0\n    0.0000    0.0000    0.0000 O   0  0\n  1  2  1  0\n  2  3  1  0\nM  END\n$$$$\n";
 
-const ETHER: &str = "ether\n\n\n  3  2  0  0  0  0  0  0  0  0999 V2000\n    0.0000    0.0000    0.0000 C   0  0\n    0.0000    0.0000    0.0000 O   0  0\n    0.0000    0.0000    0.0000 C   0  0\n  1  2  1  0\n  2  3  1  0\nM  END\n$$$$\n";
+const ETHER: &str =
+    "ether\n\n\n  3  2  0  0  0  0  0  0  0  0999 V2000\n    0.0000    0.0000    0.0000 C   0  0\n    0.0000    0.0000    0.0000 O   0  0\n    0.0000    0.0000    0.0000 C   0  0\n  1  2  1  0\n  2  3  1  0\nM  END\n$$$$\n";
 
-const CO: &str = "co\n\n\n  2  1  0  0  0  0  0  0  0  0999 V2000\n    0.0000    0.0000    0.0000 C   0  0\n    0.0000    0.0000    0.0000 O   0  0\n  1  2  1  0\nM  END\n";
+const CO: &str =
+    "co\n\n\n  2  1  0  0  0  0  0  0  0  0999 V2000\n    0.0000    0.0000    0.0000 C   0  0\n    0.0000    0.0000    0.0000 O   0  0\n  1  2  1  0\nM  END\n";
 
 fn file(alloc: Global, name: &str, text: &[&str]) -> Result<NamedBytes, Fail>
     ensures { IfOk result (λ f. f.name ≡ name.now) }
@@ -37,10 +40,13 @@ fn shelf(alloc: Global, failing: Vec<u64>) -> Result<MemShelf, Fail> {
     Ok(MemShelf::new(files, failing))
 }
 
+#[derive(Drop)]
 struct Case<'a> {
     words: &'a [&'a str],
+    // the calls of the shelf that fail
     failing: &'a [u64],
-    most: usize,
+    // the calls of the sink that take nothing
+    zero: &'a [u64],
     status: u8,
     text: &'a str,
 }
@@ -51,14 +57,88 @@ fn is_right(rt: &impl Abort, alloc: Global, case: &Case<'_>) -> Result<(), Fail>
         words.push(String::from_str(alloc, word)?)?;
     }
     let mut shelf = shelf(alloc, case.failing.to_vec(alloc)?)?;
-    let mut out = MemSink::new(alloc, 1000, case.most, Vec::new(alloc), Vec::new(alloc))?;
+    let mut out = MemSink::new(alloc, 1000, 7, Vec::new(alloc), case.zero.to_vec(alloc)?)?;
     let status = htss_tool(alloc, &words, &mut shelf, &mut out);
     assert_eq!(rt; status, case.status);
     assert_eq!(rt; out.bytes(), case.text.as_bytes());
     Ok(())
 }
 
+fn command<'a>(words: &'a [&'a str], status: u8, text: &'a str) -> Case<'a> {
+    Case {
+        words,
+        failing: &[],
+        zero: &[],
+        status,
+        text,
+    }
+}
+
 #[test]
 fn each_command_line_has_its_status_and_text(rt: HostRuntime) -> Result<(), Fail> {
+    let ethanol = ["find", "ethanol.sdf", "co.mol"];
+    let cases = [
+        command(&ethanol, 0, "hit 1 2,3 ethanol\nhits 1\n"),
+        command(
+            &["find", "a.sdf", "co.mol"],
+            0,
+            "hit 1 2,3 ethanol\nhit 2 1,2 ether\nhits 2\n",
+        ),
+        command(&["find", "empty.sdf", "co.mol"], 0, "hits 0\n"),
+        command(&["find", "co.mol", "co.mol"], 9, "stop 9 notyet co.mol\n"),
+        command(
+            &["find", "blank.sdf", "co.mol"],
+            9,
+            "stop 9 notyet blank.sdf\n",
+        ),
+        command(
+            &["find", "none.sdf", "blank.sdf"],
+            9,
+            "stop 9 notyet blank.sdf\n",
+        ),
+        command(
+            &["find", "none.sdf", "co.mol"],
+            7,
+            "stop 7 absent none.sdf\n",
+        ),
+        command(
+            &["find", "none.sdf", "none.mol"],
+            7,
+            "stop 7 absent none.mol\n",
+        ),
+        command(&["find", "a.sdf"], 2, "stop 2 usage\n"),
+        command(&["find", "a.sdf", "-co"], 2, "stop 2 usage\n"),
+        command(&["find", "", "co.mol"], 2, "stop 2 usage\n"),
+        command(&["run", "a.sdf", "co.mol"], 2, "stop 2 usage\n"),
+        command(&[], 2, "stop 2 usage\n"),
+    ];
+    for case in &cases {
+        is_right(&rt, rt.alloc(), case)?;
+    }
+    Ok(())
+}
+
+#[test]
+fn a_fault_of_the_outside_has_its_status(rt: HostRuntime) -> Result<(), Fail> {
+    let words = ["find", "ethanol.sdf", "co.mol"];
+    let faults = [
+        (1, 0, 4, "stop 4 read co.mol\n"),
+        (2, 0, 4, "stop 4 read co.mol\n"),
+        (3, 0, 4, "stop 4 read ethanol.sdf\n"),
+        (4, 0, 4, "stop 4 read ethanol.sdf\n"),
+        (0, 1, 5, ""),
+        (0, 2, 5, "hit 1 2"),
+        (2, 3, 5, "stop 4 read "),
+    ];
+    for (failing, zero, status, text) in faults {
+        let case = Case {
+            words: &words,
+            failing: &[failing],
+            zero: &[zero],
+            status,
+            text,
+        };
+        is_right(&rt, rt.alloc(), &case)?;
+    }
     Ok(())
 }

@@ -1,0 +1,51 @@
+#!/usr/bin/env bash
+# Records per second of `find` with the query of a six-ring, beside RDKit (as written, unsanitized) and Open Babel where
+# these are installed (Debian: python3-rdkit and openbabel). Best of five runs each, the same files in one run.
+# Usage: bench/find.sh [RECORDS]
+set -u
+here=$(cd "$(dirname "$0")" && pwd)
+records=${1:-20000}
+folder=$(mktemp -d)
+trap 'rm -rf "$folder"' EXIT
+sdf=$folder/made.sdf
+query=$folder/ring.mol
+python3 "$here/make_sdf.py" "$records" 7 >"$sdf"
+{
+  printf 'ring\n\n\n  6  6  0  0  0  0  0  0  0  0999 V2000\n'
+  for _ in 1 2 3 4 5 6; do printf '    0.0000    0.0000    0.0000 C   0  0\n'; done
+  printf '  1  2  1  0\n  2  3  2  0\n  3  4  1  0\n  4  5  2  0\n  5  6  1  0\n  6  1  2  0\nM  END\n'
+} >"$query"
+"$here/../htss" find "$sdf" "$query" >"$folder/hits.txt" || exit 1
+tail -n 1 "$folder/hits.txt"
+
+best() {
+  local least=
+  for _ in 1 2 3 4 5; do
+    local start end took
+    start=$(date +%s%N)
+    "$@" >/dev/null 2>&1 || return 1
+    end=$(date +%s%N)
+    took=$(((end - start) / 1000))
+    if [ -z "$least" ] || [ "$took" -lt "$least" ]; then least=$took; fi
+  done
+  echo "$least"
+}
+report() {
+  local name=$1 took=$2
+  printf '%-28s %9d us  %9d records/s  %6.1f MB/s\n' "$name" "$took" $((records * 1000000 / took)) \
+    "$(awk -v b="$(stat -c %s "$sdf")" -v t="$took" 'BEGIN { print b / t }')"
+}
+
+report 'htss find' "$(best "$here/../crates/htss_main/out/htss_main" find "$sdf" "$query")"
+report 'cat (reading alone)' "$(best cat "$sdf")"
+if /usr/bin/python3 -c 'import rdkit' 2>/dev/null; then
+  /usr/bin/python3 "$here/rdkit_find.py" "$sdf" "$query"
+else
+  echo 'RDKit: not installed'
+fi
+if command -v obabel >/dev/null; then
+  took=$(best obabel "$sdf" -osmi -O "$folder/out.smi" -s 'c1ccccc1')
+  report 'Open Babel (aromatic ring)' "$took"
+else
+  echo 'Open Babel: not installed'
+fi
