@@ -38,11 +38,14 @@ IsQuery-query_of m valid few =
 abbrev query_from : List QueryAtom → List QueryBond → QueryGraph
 query_from atoms bonds = record { atoms = atoms; bonds = bonds }
 
-made_all : {X Y : Type 0} (f : X → Y) (made : List Y) (xs items : List X) (i : ℕ) → made ≡ map f (take i items) → items ≡ xs → length items ≤ i → made ≡ map f xs
+made_all : {X Y : Type 0} (f : X → Y) (made : List Y) (xs items : List X) (i : ℕ)
+    → made ≡ map f (take i items) → items ≡ xs → length items ≤ i → made ≡ map f xs
 made_all f made xs items i is all past = is ∙ ap (map f) (take_all i items past ∙ all)
 
-pub IsQuery-made : (m : Molecule) (atoms : List QueryAtom) (bonds : List QueryBond) (xs : List Atom) (ys : List Bond) (i j : ℕ) → IsMolecule m → length m.atoms ≤ 64
-    → atoms ≡ map query_atom_of (take i xs) → xs ≡ m.atoms → length xs ≤ i → bonds ≡ map query_bond_of (take j ys) → ys ≡ m.bonds → length ys ≤ j
+pub IsQuery-made : (m : Molecule) (atoms : List QueryAtom) (bonds : List QueryBond) (xs : List Atom) (ys : List Bond) (i j : ℕ)
+    → IsMolecule m → length m.atoms ≤ 64
+    → atoms ≡ map query_atom_of (take i xs) → xs ≡ m.atoms → length xs ≤ i
+    → bonds ≡ map query_bond_of (take j ys) → ys ≡ m.bonds → length ys ≤ j
     → IsQuery (record { atoms = atoms; bonds = bonds })
 IsQuery-made m atoms bonds xs ys i j valid few made_a all_a past_a made_b all_b past_b =
     let a = made_all query_atom_of atoms m.atoms xs i made_a all_a past_a in

@@ -1,6 +1,6 @@
 -- Symbols in three columns: `element_of` reads what `left3 (symbol_of e)` writes, and nothing else.
-use Rattle.std.proofs.Common.{◌≡◌, ℕ, ◌+◌, ◌-◌, ◌≤◌, ◌<◌, Bool, true, false, List, [], ◌∷◌, length, map, get_or, eqb, ltb, cond, ◌&&◌, refl, sym, ap, subst, ◌∙◌, arith}
-use Rattle.std.specs.Prelude.{Option, Some, None, position}
+use Rattle.std.proofs.Common.{◌≡◌, ℕ, ◌+◌, ◌-◌, ◌≤◌, ◌<◌, Bool, true, List, [], length, map, get_or, eqb, ltb, cond, ◌&&◌, refl, sym, ap, subst, ◌∙◌, arith}
+use Rattle.std.specs.Prelude.{Some, None, position}
 use Rattle.std.specs.Option.{option_map}
 use Rattle.std.specs.List.{position_or_len}
 use Rattle.std.specs.Str.{bytes_eq}
@@ -42,7 +42,8 @@ row_is i within =
     ap (λ (rows : List (List ℕ)). get_or rows i []) rows_are ∙ get_or-map left3 symbols i [] [] within ∙ sym (ap (λ (k : ℕ). left3 (get_or symbols k [])) here)
 
 -- what is read is what is written
-pub left3-element_of : (text : List ℕ) (e : ℕ) → element_of text ≡ Some e → (1 ≤ e) × (e ≤ 118) × (text ≡ left3 (symbol_of e))
+pub left3-element_of : (text : List ℕ) (e : ℕ) → element_of text ≡ Some e
+    → (1 ≤ e) × (e ≤ 118) × (text ≡ left3 (symbol_of e))
 unfolding element_of
 left3-element_of text e read =
     let at = map_parts (λ (i : ℕ). i + 1) (position (λ s. bytes_eq s text) SYMBOLS) e read in
@@ -67,14 +68,16 @@ element_of-left3 e low high =
     subst (λ (k : ℕ). option_map (λ (i : ℕ). i + 1) (position (λ s. bytes_eq s (left3 (symbol_of k))) SYMBOLS) ≡ Some k) there read
 
 -- the columns of a symbol are text, three of them
-pub left3_fills : (e : ℕ) → 1 ≤ e → e ≤ 118 → (is_text (left3 (symbol_of e)) ≡ true) × (length (left3 (symbol_of e)) ≡ 3)
+pub left3_fills : (e : ℕ) → 1 ≤ e → e ≤ 118
+    → (is_text (left3 (symbol_of e)) ≡ true) × (length (left3 (symbol_of e)) ≡ 3)
 left3_fills e low high =
     let there : e - 1 + 1 ≡ e = omega arith in
     let parts = and_parts _ _ (agree_below_at fills (λ k. true) 118 (e - 1) all_fill (omega arith)) in
     subst (λ (k : ℕ). (is_text (left3 (symbol_of k)) ≡ true) × (length (left3 (symbol_of k)) ≡ 3)) there (parts.0, eqb-true _ _ parts.1)
 
 -- the symbol at a place, by the test that the program makes
-pub element_of-place : (text : List ℕ) (i : ℕ) → i < 118 → bytes_eq (get_or SYMBOLS i []) text ≡ true → element_of text ≡ Some (i + 1)
+pub element_of-place : (text : List ℕ) (i : ℕ) → i < 118
+    → bytes_eq (get_or SYMBOLS i []) text ≡ true → element_of text ≡ Some (i + 1)
 element_of-place text i within test =
     let same : row i ≡ text = sym (row_is i within) ∙ (bytes_eq-Decides (get_or SYMBOLS i []) text).0 test in
     subst (λ (t : List ℕ). element_of t ≡ Some (i + 1)) same (element_of-left3 (i + 1) (omega arith) (omega arith))

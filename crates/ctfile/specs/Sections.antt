@@ -1,6 +1,6 @@
 -- The reader as functions on lists: each takes a value off the front, and gives it with the rest.
-use Rattle.std.specs.Prelude.{◌≡◌, ◌⊎◌, ℕ, zero, suc, ◌+◌, ◌-◌, ◌*◌, ◌≤◌, List, [], ◌∷◌, length, take, drop, map, position, Option, None, Some, Bool, not, false, ◌&&◌, ◌==◌, nat_le, nat_eq, if◌then◌else◌, option_and_then, pos}
-use Rattle.std.specs.List.{list_all, starts_with}
+use Rattle.std.specs.Prelude.{◌≡◌, ◌⊎◌, ℕ, zero, suc, ◌+◌, ◌-◌, ◌*◌, ◌≤◌, List, [], ◌∷◌, length, take, drop, position, Option, None, Some, Bool, not, false, ◌&&◌, ◌==◌, nat_le, if◌then◌else◌, option_and_then, pos}
+use Rattle.std.specs.List.{list_all}
 use Rattle.std.specs.Option.{option_map}
 use Rattle.std.specs.Str.{bytes_eq}
 use lib.Chars.{codes}
@@ -11,6 +11,7 @@ use Rattle.htss_defs.specs.declared.record.NamedMol.{NamedMol}
 use Rattle.htss_defs.specs.Molecule.{IsMolecule}
 use Rattle.htss_defs.specs.QueryGraph.{QueryGraph}
 use Rattle.htss_defs.specs.Name.{IsName}
+use Rattle.ctfile.specs.Lines.{ends_section}
 use Rattle.ctfile.specs.Plain.{query_of}
 
 infixl 10 ◌>>=◌
@@ -29,7 +30,7 @@ is_text bytes = list_all (λ b. nat_le 32 b && nat_le b 126) bytes
 unfoldable pub header_at : List ℕ → Option (List ℕ × List ℕ)
 header_at bytes = do
   line ← next_line bytes
-  if nat_le (length line.0) 80 && is_text line.0 && not (starts_with nat_eq line.0 (codes "$$$$")) then Some line else None
+  if nat_le (length line.0) 80 && is_text line.0 && not (ends_section line.0) then Some line else None
 
 abbrev pub is_digit : ℕ → Bool
 is_digit b = nat_le 48 b && nat_le b 57
@@ -37,7 +38,8 @@ is_digit b = nat_le 48 b && nat_le b 57
 -- a number in three columns, right-aligned, with no leading zero
 unfoldable pub number_of : ℕ → ℕ → ℕ → Option ℕ
 number_of a b c =
-    if is_digit a && is_digit b && is_digit c && not (a == 48) then Some (100 * (a - 48) + 10 * (b - 48) + (c - 48))
+    if is_digit a && is_digit b && is_digit c && not (a == 48)
+    then Some (100 * (a - 48) + 10 * (b - 48) + (c - 48))
     else (if a == 32 && is_digit b && is_digit c && not (b == 48) then Some (10 * (b - 48) + (c - 48))
     else (if a == 32 && b == 32 && is_digit c then Some (c - 48)
     else None))
@@ -62,7 +64,8 @@ unfoldable pub atom_of : List ℕ → Option Atom
 atom_of line = do
   whole ← if length line == 39 then Some line else None
   element ← element_of (columns 32 34 whole)
-  if is_text (columns 1 31 line) && not (starts_with nat_eq line (codes "$$$$")) && bytes_eq (columns 35 39 line) (codes " 0  0")
+  if is_text (columns 1 31 line) && not (ends_section line)
+      && bytes_eq (columns 35 39 line) (codes " 0  0")
       then Some (record { element = element; charge = pos 0; mass = 0 }) else None
 
 -- of a type from 1 to 3
@@ -71,7 +74,8 @@ bond_of (a ∷ b ∷ c ∷ d ∷ e ∷ f ∷ g ∷ h ∷ i ∷ rest) = do
   first ← number_of a b c
   second ← number_of d e f
   kind ← number_of g h i
-  if nat_le kind 3 && bytes_eq rest (codes "  0") then Some (record { first = first; second = second; kind = kind; ring = false }) else None
+  if nat_le kind 3 && bytes_eq rest (codes "  0")
+      then Some (record { first = first; second = second; kind = kind; ring = false }) else None
 bond_of _ = None
 
 -- what one line says, and what stands after it
@@ -82,12 +86,16 @@ line_at reads bytes = do
   Some (x, line.1)
 
 -- so many of one kind, one after the other
-unfoldable pub many_at : {X : Type 0} → (List ℕ → Option (X × List ℕ)) → ℕ → List ℕ → Option (List X × List ℕ)
+unfoldable pub many_at : {X : Type 0} → (List ℕ → Option (X × List ℕ)) → ℕ → List ℕ
+    → Option (List X × List ℕ)
 many_at one zero bytes = Some ([], bytes)
 many_at one (suc n) bytes = do
   first ← one bytes
   others ← many_at one n first.1
   Some (first.0 ∷ others.0, others.1)
+
+abbrev pub named : List ℕ → List Atom → List Bond → NamedMol
+named name atoms bonds = record { name = name; mol = record { atoms = atoms; bonds = bonds } }
 
 -- the lines of a section, as a record, and what stands after them
 unfoldable pub section_at : List ℕ → Option (NamedMol × List ℕ)
@@ -100,7 +108,7 @@ section_at bytes = do
   atoms ← many_at (line_at atom_of) n.0 counts.1
   bonds ← many_at (line_at bond_of) n.1 atoms.1
   end ← next_line bonds.1
-  if bytes_eq end.0 (codes "M  END") then Some (record { name = name.0; mol = record { atoms = atoms.0; bonds = bonds.0 } }, end.1) else None
+  if bytes_eq end.0 (codes "M  END") then Some (named name.0 atoms.0 bonds.0, end.1) else None
 
 -- a section at the front whose lists are a record, and what stands after it
 pub record IsSectionAt (bytes : List ℕ) (e : NamedMol) (rest : List ℕ) : Type 0 where

@@ -1,5 +1,6 @@
 // Plain files and plain queries.
-ghost use Rattle.std.specs.Prelude.{◌≡◌, ℕ, ◌≤◌, ◌<◌, List, length, IfOk, IfErr, IfSome, IfNone, IsErrOf, Some, IsTrue, ◌↔◌};
+ghost use Rattle.std.specs.Prelude.{◌≡◌, ℕ, ◌≤◌, ◌<◌, ◌↔◌, List, length, Some, IsTrue};
+ghost use Rattle.std.specs.Prelude.{IfOk, IfErr, IfSome, IfNone, IsErrOf};
 ghost use Rattle.ctfile.specs.Sections.{IsSectionAt, IsFileAt, IsQueryAt, EndsQuery, next_line};
 ghost use Rattle.ctfile.specs.Plain.{IsPlainFile, IsPlainQuery, query_of};
 ghost use Rattle.htss_defs.specs.declared.record.NamedMol.{NamedMol as Record};
@@ -20,9 +21,8 @@ pub struct NotYet;
 pub fn read_plain(alloc: Global, bytes: &[u8]) -> Result<Result<Vec<NamedMol>, NotYet>, OutOfMemory>
     ensures read { IfOk result (λ answer. IfOk answer (λ v. IsPlainFile bytes.now v.items)) }
     ensures few { IfOk result (λ answer. IfOk answer (λ v. length v.items ≤ length bytes.now)) }
-    ensures not_plain {
-        IfOk result (λ answer. IfErr answer (λ _. (es : List Record) → IsPlainFile bytes.now es → ⊥))
-    }
+    ensures not_plain { IfOk result (λ answer.
+        IfErr answer (λ _. (es : List Record) → IsPlainFile bytes.now es → ⊥)) }
 {
     match records(alloc, bytes) {
         Ok(found) => Ok(Ok(found)),
@@ -31,10 +31,12 @@ pub fn read_plain(alloc: Global, bytes: &[u8]) -> Result<Result<Vec<NamedMol>, N
     }
 }
 
+// The records, one section after the other.
 fn records(alloc: Global, bytes: &[u8]) -> Result<Vec<NamedMol>, ReadError>
     ensures read { IfOk result (λ v. IsFileAt bytes.now v.items) }
     ensures few { IfOk result (λ v. length v.items ≤ length bytes.now) }
-    ensures not_plain { IsErrOf result ReadError.NotPlain → (es : List Record) → IsFileAt bytes.now es → ⊥ }
+    ensures not_plain { IsErrOf result ReadError.NotPlain
+        → (es : List Record) → IsFileAt bytes.now es → ⊥ }
 {
     let mut found = Vec::new(alloc);
     let mut rest = bytes;
@@ -56,7 +58,8 @@ fn records(alloc: Global, bytes: &[u8]) -> Result<Vec<NamedMol>, ReadError>
 fn section_end(bytes: &[u8]) -> Option<&[u8]>
     ensures shorter { IfSome result (λ x. length x.now < length bytes.now) }
     ensures found { IfSome result (λ x. next_line bytes.now ≡ Some (codes "$$$$", x.now)) }
-    ensures missing { IfNone result ((after : List ℕ) → next_line bytes.now ≡ Some (codes "$$$$", after) → ⊥) }
+    ensures missing { IfNone result
+        ((after : List ℕ) → next_line bytes.now ≡ Some (codes "$$$$", after) → ⊥) }
 {
     let (line, after) = next_line(bytes)?;
     if line == b"$$$$".as_slice() {
@@ -66,18 +69,19 @@ fn section_end(bytes: &[u8]) -> Option<&[u8]>
     }
 }
 
+// A record, and what stands after its section.
 #[derive(Drop)]
 struct Taken<'a> {
     record: NamedMol,
     rest: &'a [u8],
 }
 
+// The record at the front, and what stands after its section.
 fn record_at(alloc: Global, bytes: &[u8]) -> Result<Taken<'_>, ReadError>
     ensures shorter { IfOk result (λ x. length x.rest.now ≤ length bytes.now) }
     ensures read { IfOk result (λ x. IsSectionAt bytes.now x.record x.rest.now) }
-    ensures not_plain {
-        IsErrOf result ReadError.NotPlain → (e : Record) (rest : List ℕ) → IsSectionAt bytes.now e rest → ⊥
-    }
+    ensures not_plain { IsErrOf result ReadError.NotPlain
+        → (e : Record) (rest : List ℕ) → IsSectionAt bytes.now e rest → ⊥ }
 {
     let raw = section_of(alloc, bytes)?;
     let Some(name) = Name::new(raw.name) else {
@@ -96,9 +100,8 @@ fn record_at(alloc: Global, bytes: &[u8]) -> Result<Taken<'_>, ReadError>
 pub fn plain_query(alloc: Global, bytes: &[u8]) -> Result<Result<Query, NotYet>, OutOfMemory>
     ensures read { IfOk result (λ answer. IfOk answer (λ q. IsPlainQuery bytes.now q)) }
     ensures no_topology { IfOk result (λ answer. IfOk answer (λ q. AsksNoTopology q)) }
-    ensures not_plain {
-        IfOk result (λ answer. IfErr answer (λ _. (q : Asked) → IsPlainQuery bytes.now q → ⊥))
-    }
+    ensures not_plain { IfOk result (λ answer.
+        IfErr answer (λ _. (q : Asked) → IsPlainQuery bytes.now q → ⊥)) }
 {
     match query_record(alloc, bytes) {
         Ok(mol) => match query_of(alloc, &mol) {
@@ -114,7 +117,8 @@ pub fn plain_query(alloc: Global, bytes: &[u8]) -> Result<Result<Query, NotYet>,
 fn query_record(alloc: Global, bytes: &[u8]) -> Result<Mol, ReadError>
     ensures read { IfOk result (λ m. IsQueryAt bytes.now (query_of m)) }
     ensures few { IfOk result (λ m. length m.atoms ≤ 64) }
-    ensures not_plain { IsErrOf result ReadError.NotPlain → (q : Asked) → IsQueryAt bytes.now q → ⊥ }
+    ensures not_plain { IsErrOf result ReadError.NotPlain
+        → (q : Asked) → IsQueryAt bytes.now q → ⊥ }
 {
     let taken = match record_at(alloc, bytes) {
         Ok(taken) => taken,

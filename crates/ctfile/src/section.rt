@@ -1,6 +1,6 @@
 // The lines of a section.
 ghost use Rattle.std.specs.Prelude.{◌≡◌, ℕ, ◌<◌, ◌≤◌, length, IfOk, IfSome};
-ghost use Rattle.ctfile.specs.Sections.{line_at, atom_of, bond_of, many_at, section_at};
+ghost use Rattle.ctfile.specs.Sections.{line_at, atom_of, bond_of, many_at, section_at, named};
 ghost use Rattle.std.specs.Option.{option_map};
 ghost use Rattle.ctfile.specs.Reads.{Gives};
 
@@ -29,11 +29,11 @@ fn atom_at(bytes: &[u8]) -> Option<(Atom, &[u8])>
     Some((atom, rest))
 }
 
+// So many atoms, one line each.
 fn atoms_at(alloc: Global, count: u16, bytes: &[u8]) -> Result<(Vec<Atom>, &[u8]), ReadError>
     ensures shorter { IfOk result (λ x. length x.1.now ≤ length bytes.now) }
-    ensures atoms {
-        Gives (λ x. (x.0.items, x.1.now)) result (many_at (line_at atom_of) count bytes.now)
-    }
+    ensures atoms { Gives (λ x. (x.0.items, x.1.now)) result
+        (many_at (line_at atom_of) count bytes.now) }
 {
     let mut atoms = Vec::with_capacity(alloc, count as usize)?;
     let mut rest = bytes;
@@ -57,11 +57,11 @@ fn bond_at(bytes: &[u8]) -> Option<(Bond, &[u8])>
     Some((bond, rest))
 }
 
+// So many bonds, one line each.
 fn bonds_at(alloc: Global, count: u16, bytes: &[u8]) -> Result<(Vec<Bond>, &[u8]), ReadError>
     ensures shorter { IfOk result (λ x. length x.1.now ≤ length bytes.now) }
-    ensures bonds {
-        Gives (λ x. (x.0.items, x.1.now)) result (many_at (line_at bond_of) count bytes.now)
-    }
+    ensures bonds { Gives (λ x. (x.0.items, x.1.now)) result
+        (many_at (line_at bond_of) count bytes.now) }
 {
     let mut bonds = Vec::with_capacity(alloc, count as usize)?;
     let mut rest = bytes;
@@ -79,11 +79,8 @@ fn bonds_at(alloc: Global, count: u16, bytes: &[u8]) -> Result<(Vec<Bond>, &[u8]
 #[tactic(auto, unfolding(crate::specs::Sections::section_at))]
 pub fn section_of(alloc: Global, bytes: &[u8]) -> Result<Raw<'_>, ReadError>
     ensures shorter { IfOk result (λ x. length x.rest.now ≤ length bytes.now) }
-    ensures section {
-        Gives (λ x. (record { name = x.name.now;
-                mol = record { atoms = x.atoms.items; bonds = x.bonds.items } }, x.rest.now))
-            result (section_at bytes.now)
-    }
+    ensures section { Gives (λ x. (named x.name.now x.atoms.items x.bonds.items, x.rest.now)) result
+        (section_at bytes.now) }
 {
     let (name, rest) = header_at(bytes).ok_or(ReadError::NotPlain)?;
     let (_, rest) = header_at(rest).ok_or(ReadError::NotPlain)?;

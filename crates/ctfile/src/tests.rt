@@ -3,11 +3,14 @@ use htss_defs::{Atom, AtomTest, Bond, QueryAtom, QueryBond};
 use std::alloc::Global;
 use std::test::Fail;
 
-const ETHANOL: &str = "ethanol\n\n\n  3  2  0  0  0  0  0  0  0  0999 V2000\n    0.0000    0.0000    0.0000 C   0  0\n    1.5000    0.0000    0.0000 C   0  0\n    2.2500    1.2990    0.0000 O   0  0\n  1  2  1  0\n  2  3  1  0\nM  END\n$$$$\n";
+const ETHANOL: &str =
+    "ethanol\n\n\n  3  2  0  0  0  0  0  0  0  0999 V2000\n    0.0000    0.0000    0.0000 C   0  0\n    1.5000    0.0000    0.0000 C   0  0\n    2.2500    1.2990    0.0000 O   0  0\n  1  2  1  0\n  2  3  1  0\nM  END\n$$$$\n";
 
-const ETHER: &str = "ether\n  drawn by hand\nC-O-C\n  3  2  0  0  0  0  0  0  0  0999 V2000\n    0.0000    0.0000    0.0000 C   0  0\n    1.4000    0.0000    0.0000 O   0  0\n    2.8000    0.0000    0.0000 C   0  0\n  1  2  1  0\n  3  2  1  0\nM  END\n$$$$\n";
+const ETHER: &str =
+    "ether\n  drawn by hand\nC-O-C\n  3  2  0  0  0  0  0  0  0  0999 V2000\n    0.0000    0.0000    0.0000 C   0  0\n    1.4000    0.0000    0.0000 O   0  0\n    2.8000    0.0000    0.0000 C   0  0\n  1  2  1  0\n  3  2  1  0\nM  END\n$$$$\n";
 
-const CARBON: &str = "c\n\n\n  1  0  0  0  0  0  0  0  0  0999 V2000\n    0.0000    0.0000    0.0000 C   0  0\nM  END\n$$$$\n";
+const CARBON: &str =
+    "c\n\n\n  1  0  0  0  0  0  0  0  0  0999 V2000\n    0.0000    0.0000    0.0000 C   0  0\nM  END\n$$$$\n";
 
 fn atom(element: u8) -> Atom {
     Atom {

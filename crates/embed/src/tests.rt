@@ -5,6 +5,7 @@ use std::alloc::Global;
 use std::test::Fail;
 
 // Elements, and bonds by their places and type.
+#[derive(Clone, Copy)]
 struct Sketch {
     elements: &'static [u8],
     bonds: &'static [(u16, u16, u8)],
@@ -100,46 +101,76 @@ fn query_of(alloc: Global, sketch: &Sketch) -> Result<Query, Fail> {
     Ok(Query::new(atoms, bonds).ok_or("no query")?)
 }
 
+#[derive(Drop)]
+struct Case {
+    asked: Sketch,
+    given: Sketch,
+    // no places: it does not embed
+    want: &'static [u16],
+}
+
 #[test]
 fn finds_the_least_embedding(rt: HostRuntime) -> Result<(), Fail> {
-    let cases: [(&Sketch, &Sketch, &[u16]); 7] = [
-        (&CARBON_OXYGEN, &ETHANOL, &[2, 3]),
-        (&CARBON_OXYGEN, &ETHER, &[1, 2]),
-        (&CARBON_OXYGEN, &PROPANE, &[]),
-        (&SINGLE_OR_DOUBLE, &RING_OF_SIX, &[1, 2]),
-        (&AROMATIC, &RING_OF_SIX, &[]),
-        (&DOUBLE_THEN_SINGLE, &RING_OF_SIX, &[1, 6, 5]),
-        (&DOUBLE_THEN_SINGLE, &ETHANOL, &[]),
+    let cases = [
+        Case {
+            asked: CARBON_OXYGEN,
+            given: ETHANOL,
+            want: &[2, 3],
+        },
+        Case {
+            asked: CARBON_OXYGEN,
+            given: ETHER,
+            want: &[1, 2],
+        },
+        Case {
+            asked: CARBON_OXYGEN,
+            given: PROPANE,
+            want: &[],
+        },
+        Case {
+            asked: SINGLE_OR_DOUBLE,
+            given: RING_OF_SIX,
+            want: &[1, 2],
+        },
+        Case {
+            asked: AROMATIC,
+            given: RING_OF_SIX,
+            want: &[],
+        },
+        Case {
+            asked: DOUBLE_THEN_SINGLE,
+            given: RING_OF_SIX,
+            want: &[1, 6, 5],
+        },
     ];
-    for (asked, given, want) in cases {
-        let query = query_of(rt.alloc(), asked)?;
-        let mol = molecule_of(rt.alloc(), given)?;
+    for case in &cases {
+        let query = query_of(rt.alloc(), &case.asked)?;
+        let mol = molecule_of(rt.alloc(), &case.given)?;
         assert!(rt; query.bonds().iter().all(|bond| bond.topology == 0));
         let mut map = ArrayVec::new();
         let found = first_map(&query, &mol, &mut map);
-        assert_eq!(rt; found, !want.is_empty());
-        assert_eq!(rt; map.as_slice(), want);
+        assert_eq!(rt; found, !case.want.is_empty());
+        assert_eq!(rt; map.as_slice(), case.want);
     }
     Ok(())
 }
 
 #[test]
 fn asks_many_molecules(rt: HostRuntime) -> Result<(), Fail> {
+    let ethanol = molecule_of(rt.alloc(), &ETHANOL)?;
+    let propane = molecule_of(rt.alloc(), &PROPANE)?;
+    let ether = molecule_of(rt.alloc(), &ETHER)?;
     let query = query_of(rt.alloc(), &CARBON_OXYGEN)?;
     assert!(rt; query.bonds().iter().all(|bond| bond.topology == 0));
     let mut matcher = Matcher::new(&query);
-    let cases: [(&Sketch, &[u16]); 4] = [
-        (&RING_OF_SIX, &[]),
-        (&ETHANOL, &[2, 3]),
-        (&PROPANE, &[]),
-        (&ETHER, &[1, 2]),
-    ];
     let mut map = ArrayVec::new();
-    for (given, want) in cases {
-        let mol = molecule_of(rt.alloc(), given)?;
-        let found = matcher.first_map(&mol, &mut map);
-        assert_eq!(rt; found, !want.is_empty());
-        assert_eq!(rt; map.as_slice(), want);
-    }
+    let in_ethanol = matcher.first_map(&ethanol, &mut map);
+    assert_eq!(rt; in_ethanol, true);
+    assert_eq!(rt; map.as_slice(), [2, 3].as_slice());
+    let in_propane = matcher.first_map(&propane, &mut map);
+    assert_eq!(rt; in_propane, false);
+    let in_ether = matcher.first_map(&ether, &mut map);
+    assert_eq!(rt; in_ether, true);
+    assert_eq!(rt; map.as_slice(), [1, 2].as_slice());
     Ok(())
 }

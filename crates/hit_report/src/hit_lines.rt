@@ -1,5 +1,5 @@
 // Lines are appended to a text that is lent; where memory runs out the text is cut to what it was.
-ghost use Rattle.std.specs.Prelude.{◌≡◌, ℕ, ◌∷◌, ◌++◌, [], OnOk, OnErr, decimal};
+ghost use Rattle.std.specs.Prelude.{◌≡◌, ℕ, ◌∷◌, ◌++◌, [], OnOk, OnErr, decimal, take};
 ghost use Rattle.hit_report.specs.HitLines.{hit_line, count_line, map_text, name_text};
 ghost use Rattle.hit_report.specs.Appends.{KeepsFront};
 
@@ -18,13 +18,8 @@ pub fn push_hit(
     ensures err { OnErr result (text.new.items ≡ text.old.items) }
 {
     let before = text.len();
-    match append_hit(text, number, map, name) {
-        Ok(()) => Ok(()),
-        Err(OutOfMemory) => {
-            text.truncate(before);
-            Err(OutOfMemory)
-        }
-    }
+    let appended = append_hit(text, number, map, name);
+    kept_or_cut(text, before, appended)
 }
 
 /// Appends the line of the number of hits, `hits N`. An `Err` leaves the text as it was.
@@ -33,13 +28,24 @@ pub fn push_count(text: &mut Vec<u8>, count: u32) -> Result<(), OutOfMemory>
     ensures err { OnErr result (text.new.items ≡ text.old.items) }
 {
     let before = text.len();
-    match append_count(text, count) {
-        Ok(()) => Ok(()),
-        Err(OutOfMemory) => {
-            text.truncate(before);
-            Err(OutOfMemory)
-        }
+    let appended = append_count(text, count);
+    kept_or_cut(text, before, appended)
+}
+
+// Cuts the text to the length before, where it was not appended to whole.
+fn kept_or_cut(
+    text: &mut Vec<u8>,
+    before: usize,
+    appended: Result<(), OutOfMemory>,
+) -> Result<(), OutOfMemory>
+    ensures same { result ≡ appended }
+    ensures ok { OnOk appended (text.new.items ≡ text.old.items) }
+    ensures err { OnErr appended (text.new.items ≡ take before text.old.items) }
+{
+    if appended.is_err() {
+        text.truncate(before);
     }
+    appended
 }
 
 #[tactic(auto, using(crate::proofs::Fronts::front_trans), unfolding(crate::specs::HitLines::hit_line))]

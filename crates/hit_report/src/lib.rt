@@ -2,5 +2,7 @@
 #![tactic(auto)]
 
 mod hit_lines;
+#[cfg(test)]
+mod tests;
 
 pub use hit_lines::{push_count, push_hit};
