@@ -15,8 +15,8 @@ use Rattle.htss_defs.specs.Molecule.{IsMolecule, IsAtom, IsBond}
 use Rattle.htss_defs.specs.QueryGraph.{QueryGraph}
 use Rattle.htss_defs.specs.Name.{IsName}
 use Rattle.ctfile.specs.Lines.{text_of, ends_section}
-use Rattle.ctfile.specs.Plain.{IsHeaderLine, IsPosition, IsPlainAtom, IsPlainBond, IsPlainSection, IsPlainFile, IsPlainQuery, counts_line, atom_line, bond_line, section_end}
-use Rattle.ctfile.specs.Sections.{next_line, header_at, counts_of, line_at, many_at, atom_of, bond_of, section_at, named, is_text, IsSectionAt, IsFileAt, IsQueryAt, EndsQuery}
+use Rattle.ctfile.specs.Plain.{IsHeaderLine, IsPosition, IsPlainAtom, IsPlainBond, IsPlainSection, IsPlainQuery, counts_line, atom_line, bond_line, section_end}
+use Rattle.ctfile.specs.Sections.{next_line, header_at, counts_of, line_at, many_at, atom_of, bond_of, section_at, named, is_text, IsSectionAt, IsQueryAt, EndsQuery}
 use Rattle.ctfile.proofs.Parts.{and_then_parts, if_some}
 use Rattle.ctfile.proofs.Texts.{next_line-parts, next_line-text, text_of-append}
 use Rattle.ctfile.proofs.Many.{AreRead, are_texts, many_at-parts, many_at-text}
@@ -277,20 +277,7 @@ IsSectionAt-from_plain : (lines : List (List ℕ)) (e : NamedMol) (bytes rest : 
     → IsPlainSection lines e → bytes ≡ text_of lines ++ rest → IsSectionAt bytes e rest
 IsSectionAt-from_plain lines e bytes rest is text = record { lines = ap section_at text ∙ section_at-text lines e rest is; name = is.valid.name; mol = is.valid.mol }
 
--- the same of files and of queries
-pub IsPlainFile-from_reading : (es : List NamedMol) (bytes : List ℕ) → IsFileAt bytes es
-    → IsPlainFile bytes es
-IsPlainFile-from_reading [] bytes is = is
-IsPlainFile-from_reading (e ∷ es) bytes (after, rest, section, end, more) =
-    let parts = section_at-parts bytes e after section.lines section.name section.mol in
-    (parts.0, rest, parts.1, parts.2 ∙ ap (λ (r : List ℕ). text_of parts.0 ++ r) (next_line-parts after (codes "$$$$") rest end), IsPlainFile-from_reading es rest more)
-
-pub IsFileAt-from_plain : (es : List NamedMol) (bytes : List ℕ) → IsPlainFile bytes es
-    → IsFileAt bytes es
-IsFileAt-from_plain [] bytes is = is
-IsFileAt-from_plain (e ∷ es) bytes (lines, rest, section, text, more) =
-    (section_end ++ rest, rest, IsSectionAt-from_plain lines e bytes (section_end ++ rest) section text, next_line-text (codes "$$$$") rest refl, IsFileAt-from_plain es rest more)
-
+-- the same of queries
 pub IsPlainQuery-from_reading : (bytes : List ℕ) (q : QueryGraph) → IsQueryAt bytes q
     → IsPlainQuery bytes q
 IsPlainQuery-from_reading bytes q is =

@@ -6,5 +6,8 @@ pub mod Many
 pub mod Rows
 pub mod Law
 pub mod Loop
-pub mod Front
 pub mod Query
+pub mod LinesOf
+pub mod Looked
+pub mod Answered
+pub mod OneList

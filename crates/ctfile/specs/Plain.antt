@@ -65,12 +65,6 @@ pub record IsPlainSection (lines : List (List ℕ)) (e : NamedMol) : Type 0 wher
 abbrev pub section_end : List ℕ
 section_end = text_of (codes "$$$$" ∷ [])
 
--- the bytes are plain sections with these records, each followed by its end
-abbrev pub IsPlainFile : List ℕ → List NamedMol → Type 0
-IsPlainFile bytes [] = bytes ≡ []
-IsPlainFile bytes (e ∷ es) =
-    (lines : List (List ℕ)) × (rest : List ℕ) × IsPlainSection lines e × (bytes ≡ text_of lines ++ (section_end ++ rest)) × IsPlainFile rest es
-
 abbrev pub query_atom_of : Atom → QueryAtom
 query_atom_of a = record { test = Element a.element; charge = a.charge; mass = a.mass }
 

@@ -116,12 +116,6 @@ pub record IsSectionAt (bytes : List ℕ) (e : NamedMol) (rest : List ℕ) : Typ
   pub name : IsName e.name
   pub mol : IsMolecule e.mol
 
--- sections, each followed by its end
-abbrev pub IsFileAt : List ℕ → List NamedMol → Type 0
-IsFileAt bytes [] = bytes ≡ []
-IsFileAt bytes (e ∷ es) =
-    (after rest : List ℕ) × IsSectionAt bytes e after × (next_line after ≡ Some (codes "$$$$", rest)) × IsFileAt rest es
-
 -- nothing follows, or the end of the section and nothing else
 abbrev pub EndsQuery : List ℕ → Type 0
 EndsQuery after = (after ≡ []) ⊎ (next_line after ≡ Some (codes "$$$$", []))

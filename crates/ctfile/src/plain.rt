@@ -1,8 +1,8 @@
-// Plain files and plain queries.
+// Plain queries.
 ghost use Rattle.std.specs.Prelude.{◌≡◌, ℕ, ◌≤◌, ◌<◌, ◌↔◌, List, length, Some, IsTrue};
 ghost use Rattle.std.specs.Prelude.{IfOk, IfErr, IfSome, IfNone, IsErrOf};
-ghost use Rattle.ctfile.specs.Sections.{IsSectionAt, IsFileAt, IsQueryAt, EndsQuery, next_line};
-ghost use Rattle.ctfile.specs.Plain.{IsPlainFile, IsPlainQuery, query_of};
+ghost use Rattle.ctfile.specs.Sections.{IsSectionAt, IsQueryAt, EndsQuery, next_line};
+ghost use Rattle.ctfile.specs.Plain.{IsPlainQuery, query_of};
 ghost use Rattle.htss_defs.specs.declared.record.NamedMol.{NamedMol as Record};
 ghost use lib.Chars.{codes};
 ghost use Rattle.htss_defs.specs.QueryGraph.{QueryGraph as Asked, AsksNoTopology};
@@ -16,43 +16,6 @@ use std::alloc::{AllocError, Global};
 /// The bytes are not of the plain form.
 #[derive(Clone, Copy, Debug, PartialEq, Eq)]
 pub struct NotYet;
-
-/// The records of a plain file.
-pub fn read_plain(alloc: Global, bytes: &[u8]) -> Result<Result<Vec<NamedMol>, NotYet>, OutOfMemory>
-    ensures read { IfOk result (λ answer. IfOk answer (λ v. IsPlainFile bytes.now v.items)) }
-    ensures few { IfOk result (λ answer. IfOk answer (λ v. length v.items ≤ length bytes.now)) }
-    ensures not_plain { IfOk result (λ answer.
-        IfErr answer (λ _. (es : List Record) → IsPlainFile bytes.now es → ⊥)) }
-{
-    match records(alloc, bytes) {
-        Ok(found) => Ok(Ok(found)),
-        Err(ReadError::NotPlain) => Ok(Err(NotYet)),
-        Err(ReadError::Memory) => Err(OutOfMemory),
-    }
-}
-
-// The records, one section after the other.
-fn records(alloc: Global, bytes: &[u8]) -> Result<Vec<NamedMol>, ReadError>
-    ensures read { IfOk result (λ v. IsFileAt bytes.now v.items) }
-    ensures few { IfOk result (λ v. length v.items ≤ length bytes.now) }
-    ensures not_plain { IsErrOf result ReadError.NotPlain
-        → (es : List Record) → IsFileAt bytes.now es → ⊥ }
-{
-    let mut found = Vec::new(alloc);
-    let mut rest = bytes;
-    while !rest.is_empty() {
-        let taken = match record_at(alloc, rest) {
-            Ok(taken) => taken,
-            Err(stop) => return Err(stop),
-        };
-        let Some(after) = section_end(taken.rest) else {
-            return Err(ReadError::NotPlain);
-        };
-        found.push(taken.record)?;
-        rest = after;
-    }
-    Ok(found)
-}
 
 // What stands after the line that ends a section.
 fn section_end(bytes: &[u8]) -> Option<&[u8]>

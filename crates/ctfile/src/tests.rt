@@ -1,5 +1,5 @@
-use crate::{NotYet, plain_query, read_plain};
-use htss_defs::{Atom, AtomTest, Bond, QueryAtom, QueryBond};
+use crate::{NotYet, plain_query};
+use htss_defs::{AtomTest, QueryAtom, QueryBond};
 use std::alloc::Global;
 use std::test::Fail;
 
@@ -12,46 +12,12 @@ const ETHER: &str =
 const CARBON: &str =
     "c\n\n\n  1  0  0  0  0  0  0  0  0  0999 V2000\n    0.0000    0.0000    0.0000 C   0  0\nM  END\n$$$$\n";
 
-fn atom(element: u8) -> Atom {
-    Atom {
-        element,
-        charge: 0,
-        mass: 0,
-    }
-}
-
-fn bond(first: u16, second: u16) -> Bond {
-    Bond {
-        first,
-        second,
-        kind: 1,
-        ring: false,
-    }
-}
-
 fn is_plain(alloc: Global, text: &str) -> Result<bool, Fail> {
-    Ok(read_plain(alloc, text.as_bytes())?.is_ok())
+    Ok(plain_query(alloc, text.as_bytes())?.is_ok())
 }
 
 #[test]
-fn reads_two_records(rt: HostRuntime) -> Result<(), Fail> {
-    let text = format!(in rt.alloc(); "{ETHANOL}{ETHER}")?;
-    let records = read_plain(rt.alloc(), text.as_bytes())??;
-    assert_eq!(rt; records.len(), 2);
-    let ethanol = &records[0];
-    assert_eq!(rt; ethanol.name.bytes(), b"ethanol".as_slice());
-    assert_eq!(rt; ethanol.mol.atoms(), [atom(6), atom(6), atom(8)].as_slice());
-    assert_eq!(rt; ethanol.mol.bonds(), [bond(1, 2), bond(2, 3)].as_slice());
-    let ether = &records[1];
-    assert_eq!(rt; ether.name.bytes(), b"ether".as_slice());
-    assert_eq!(rt; ether.mol.atoms(), [atom(6), atom(8), atom(6)].as_slice());
-    assert_eq!(rt; ether.mol.bonds(), [bond(1, 2), bond(3, 2)].as_slice());
-    Ok(())
-}
-
-#[test]
-fn tells_plain_files(rt: HostRuntime) -> Result<(), Fail> {
-    assert!(rt; is_plain(rt.alloc(), "")?);
+fn tells_plain_sections(rt: HostRuntime) -> Result<(), Fail> {
     let cases = [
         ("c", "c", true),
         ("c", "", true),
@@ -74,7 +40,7 @@ fn tells_plain_files(rt: HostRuntime) -> Result<(), Fail> {
         ("  1  0  0", "  2  0  0", false),
         ("V2000", "V3000", false),
         ("M  END\n", "", false),
-        ("$$$$\n", "", false),
+        ("$$$$\n", "", true),
         ("$$$$\n", "$$$$", false),
         ("$$$$\n", "$$$$\n\n", false),
         ("$$$$\n", "$$$$ \n", false),
@@ -127,6 +93,9 @@ fn reads_a_query(rt: HostRuntime) -> Result<(), Fail> {
         ring: false,
     };
     assert_eq!(rt; query.bonds().first(), Some(&asked));
+    let query = plain_query(rt.alloc(), ETHER.as_bytes())??;
+    let ends = query.bonds().get(1).map(|bond| (bond.first, bond.second));
+    assert_eq!(rt; ends, Some((3, 2)));
     assert!(rt; plain_query(rt.alloc(), b"")?.is_err());
     let text = format!(in rt.alloc(); "{CARBON}{CARBON}")?;
     assert!(rt; plain_query(rt.alloc(), text.as_bytes())?.is_err());

@@ -22,7 +22,8 @@ use Rattle.embed.specs.Partial.{GoesOn, IsFirstFrom, IsStuck}
 at_place-some : {X : Type 0} (xs : List X) (p : ℕ) → 1 ≤ p → at_place xs p ≡ slice_get xs (p - 1)
 at_place-some xs p low = cond-false (eqb p 0) None (slice_get xs (p - 1)) (ne_eqb p 0 (λ e. omega arith))
 
-AtomLands-of : (asked : QueryAtom) (m : Molecule) (p : ℕ) (there : Option Atom) → at_place m.atoms p ≡ there → passes (Some asked) there ≡ true → AtomLands asked m p
+AtomLands-of : (asked : QueryAtom) (m : Molecule) (p : ℕ) (there : Option Atom) → at_place m.atoms p ≡ there
+    → passes (Some asked) there ≡ true → AtomLands asked m p
 AtomLands-of asked m p None is passed = absurd cc
 AtomLands-of asked m p (Some atom) is passed = elim (cases_eq p 0) [
   | inl none ↦ absurd (let e = cond-true (eqb p 0) None (slice_get m.atoms (p - 1)) (eq-eqb p 0 none) in cc)
@@ -31,22 +32,29 @@ AtomLands-of asked m p (Some atom) is passed = elim (cases_eq p 0) [
       record { atom = atom; here = (low, sym (at_place-some m.atoms p low) ∙ is); passes = passed }
 ]
 
-passes-AtomLands : (asked : QueryAtom) (m : Molecule) (p : ℕ) → AtomLands asked m p → passes (Some asked) (at_place m.atoms p) ≡ true
-passes-AtomLands asked m p lands = ap (passes (Some asked)) (at_place-some m.atoms p lands.here.0 ∙ lands.here.1) ∙ lands.passes
+passes-AtomLands : (asked : QueryAtom) (m : Molecule) (p : ℕ) → AtomLands asked m p
+    → passes (Some asked) (at_place m.atoms p) ≡ true
+passes-AtomLands asked m p lands = ap (passes (Some asked))
+    (at_place-some m.atoms p lands.here.0 ∙ lands.here.1) ∙ lands.passes
 
 -- ---- bonds
 
-bond_lands-BondLands : (asked : QueryBond) (m : Molecule) (x y : ℕ) → BondLands asked m x y → bond_lands m asked x y ≡ true
+bond_lands-BondLands : (asked : QueryBond) (m : Molecule) (x y : ℕ) → BondLands asked m x y
+    → bond_lands m asked x y ≡ true
 bond_lands-BondLands asked m x y lands =
     let test : Bond → Bool = λ b. joins (bond_ends b) x y && kind_passes asked.kind b.kind in
-    let there : get_or m.bonds lands.index lands.bond ≡ lands.bond = get_or_from_slice_get m.bonds lands.index lands.bond lands.bond lands.here in
-    list_any_at test m.bonds lands.index lands.bond (slice_get_within m.bonds lands.index lands.bond lands.here) (ap test there ∙ and_from _ _ lands.joined lands.kind)
+    let there : get_or m.bonds lands.index lands.bond ≡ lands.bond = get_or_from_slice_get m.bonds lands.index
+    lands.bond lands.bond lands.here in
+    list_any_at test m.bonds lands.index lands.bond
+    (slice_get_within m.bonds lands.index lands.bond lands.here)
+    (ap test there ∙ and_from _ _ lands.joined lands.kind)
 
 -- topology 0 asks for nothing
 MeetsTopology-none : (asked : ℕ) (g : Graph) (k : ℕ) → asked ≡ 0 → MeetsTopology asked g k
 MeetsTopology-none asked g k none = record { ring = λ is. absurd (omega arith); chain = λ is ring. omega arith }
 
-BondLands-of : (asked : QueryBond) (m : Molecule) (x y : ℕ) → asked.topology ≡ 0 → bond_lands m asked x y ≡ true → BondLands asked m x y
+BondLands-of : (asked : QueryBond) (m : Molecule) (x y : ℕ) → asked.topology ≡ 0
+    → bond_lands m asked x y ≡ true → BondLands asked m x y
 BondLands-of asked m x y none lands =
     let found = Any-from_list_any (λ b. joins (bond_ends b) x y && kind_passes asked.kind b.kind) m.bonds lands in
     let parts = and_parts _ _ found.4 in
@@ -61,14 +69,16 @@ BondLands-of asked m x y none lands =
 
 -- ---- the law
 
-pub IsEmbedding-of : (q : QueryGraph) (m : Molecule) (map : List ℕ) → AsksNoTopology q → PassesAll q m map → IsEmbedding q m map
+pub IsEmbedding-of : (q : QueryGraph) (m : Molecule) (map : List ℕ) → AsksNoTopology q → PassesAll q m map
+    → IsEmbedding q m map
 IsEmbedding-of q m map none all = record {
   one_each = all.one_each;
   apart = all.apart;
   atoms = λ i asked there.
       let within : i < length map = omega (arith, all.one_each, slice_get_within q.atoms i asked there) in
       AtomLands-of asked m (slice_index map i) (at_place m.atoms (slice_index map i)) refl
-      (subst (λ (o : Option QueryAtom). passes o (at_place m.atoms (slice_index map i)) ≡ true) there (all.atoms i within));
+      (subst (λ (o : Option QueryAtom). passes o (at_place m.atoms (slice_index map i)) ≡ true) there
+      (all.atoms i within));
   bonds = λ k d within. BondLands-of (get_or q.bonds k d) m _ _ (none k d within) (all.bonds k d within);
 }
 
@@ -91,12 +101,19 @@ PassesAll-of q m map e = record {
 goes-on : (q : QueryGraph) (m : Molecule) (map : List ℕ) → IsEmbedding q m map → GoesOn q m [] map
 goes-on q m map e = record { embeds = PassesAll-of q m map e; begins = refl }
 
-pub IsLeastEmbedding-from : (q query : QueryGraph) (m : Molecule) (f map : List ℕ) → q ≡ query → AsksNoTopology query → f ≡ [] → IsFirstFrom q m f map → IsLeastEmbedding query m map
+pub IsLeastEmbedding-from : (q query : QueryGraph) (m : Molecule) (f map : List ℕ) → q ≡ query
+    → AsksNoTopology query → f ≡ [] → IsFirstFrom q m f map → IsLeastEmbedding query m map
 IsLeastEmbedding-from q query m f map same none empty from =
-    let first : IsFirstFrom query m [] map = subst (λ (g : List ℕ). IsFirstFrom query m g map) empty (subst (λ (r : QueryGraph). IsFirstFrom r m f map) same from) in
-    record { embeds = IsEmbedding-of query m map none first.goes_on.embeds; least = λ other e. first.first other (goes-on query m other e) }
+    let first : IsFirstFrom query m [] map = subst (λ (g : List ℕ). IsFirstFrom query m g map) empty
+    (subst (λ (r : QueryGraph). IsFirstFrom r m f map) same from) in
+    record {
+      embeds = IsEmbedding-of query m map none first.goes_on.embeds;
+      least = λ other e. first.first other (goes-on query m other e);
+    }
 
-pub NoEmbedding-from : (q query : QueryGraph) (m : Molecule) (f : List ℕ) → q ≡ query → f ≡ [] → IsStuck q m f → NoEmbedding query m
+pub NoEmbedding-from : (q query : QueryGraph) (m : Molecule) (f : List ℕ) → q ≡ query → f ≡ [] → IsStuck q m f
+    → NoEmbedding query m
 NoEmbedding-from q query m f same empty stuck =
-    let none : NoEmbedding q m = λ map e. stuck map (subst (λ (g : List ℕ). GoesOn q m g map) (sym empty) (goes-on q m map e)) in
+    let none : NoEmbedding q m = λ map e. stuck map
+    (subst (λ (g : List ℕ). GoesOn q m g map) (sym empty) (goes-on q m map e)) in
     subst (λ (r : QueryGraph). NoEmbedding r m) same none

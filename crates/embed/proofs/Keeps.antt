@@ -20,17 +20,21 @@ no_bond = record { first = 0; second = 0; kind = 0; topology = 0; ring = false }
 abbrev pub KeepsAt : Molecule → List ℕ → ℕ → List QueryBond → ℕ → Type 0
 KeepsAt m map p bonds k = (d : QueryBond) → bond_keeps m map p (get_or bonds k d) ≡ true
 
-pub KeepsAt-of : (m : Molecule) (f : List ℕ) (p : ℕ) (bonds here : List QueryBond) (k : ℕ) (d : QueryBond) (answer : Bool) → here ≡ bonds → k < length bonds
+pub KeepsAt-of : (m : Molecule) (f : List ℕ) (p : ℕ) (bonds here : List QueryBond) (k : ℕ) (d : QueryBond)
+    (answer : Bool) → here ≡ bonds → k < length bonds
     → answer ≡ bond_keeps m f p (get_or here k d) → answer ≡ true → KeepsAt m f p bonds k
 KeepsAt-of m f p bonds here k d answer same within answered kept e =
     let test : QueryBond → Bool = bond_keeps m f p in
-    ap test (get_or_default bonds k e d within) ∙ ap (λ (bs : List QueryBond). test (get_or bs k d)) (sym same) ∙ sym answered ∙ kept
+    ap test (get_or_default bonds k e d within)
+    ∙ ap (λ (bs : List QueryBond). test (get_or bs k d)) (sym same) ∙ sym answered ∙ kept
 
-pub one-fails : (m : Molecule) (f : List ℕ) (p : ℕ) (bonds here : List QueryBond) (k : ℕ) (d : QueryBond) (answer : Bool) → here ≡ bonds → k < length bonds
+pub one-fails : (m : Molecule) (f : List ℕ) (p : ℕ) (bonds here : List QueryBond) (k : ℕ) (d : QueryBond)
+    (answer : Bool) → here ≡ bonds → k < length bonds
     → answer ≡ bond_keeps m f p (get_or here k d) → answer ≡ false → list_all (bond_keeps m f p) bonds ≡ false
 one-fails m f p bonds here k d answer same within answered failed =
     let test : QueryBond → Bool = bond_keeps m f p in
-    list_all_at test bonds k d within (ap (λ (bs : List QueryBond). test (get_or bs k d)) (sym same) ∙ sym answered ∙ failed)
+    list_all_at test bonds k d within
+    (ap (λ (bs : List QueryBond). test (get_or bs k d)) (sym same) ∙ sym answered ∙ failed)
 
 pub length-shape : (q : QueryGraph) (g : Graph) → g ≡ query_shape q → length g.bonds ≡ length q.bonds
 length-shape q g is = ap (λ (h : Graph). length h.bonds) is ∙ length-map q.bonds query_bond_ends
@@ -41,18 +45,23 @@ larger a b n is = elim (cases_eq a n) [
   | inr other ↦ inr (omega arith)
 ]
 
-pub all-keep : (q : QueryGraph) (m : Molecule) (g : Graph) (f : List ℕ) (p link : ℕ) → g ≡ query_shape q → Walked g.bonds (length f + 1) link (KeepsAt m f p q.bonds) → link ≡ 0
+pub all-keep : (q : QueryGraph) (m : Molecule) (g : Graph) (f : List ℕ) (p link : ℕ) → g ≡ query_shape q
+    → Walked g.bonds (length f + 1) link (KeepsAt m f p q.bonds) → link ≡ 0
     → bonds_keep q m f p ≡ true
 all-keep q m g f p link is walked end = list_all-from_AllPass (bond_keeps m f p) q.bonds (λ k d within.
     let b : QueryBond = get_or q.bonds k d in
     let next : ℕ = length f + 1 in
     let e : Ends = query_bond_ends d in
-    let there : get_or g.bonds k e ≡ query_bond_ends b = ap (λ (h : Graph). get_or h.bonds k e) is ∙ get_or-map query_bond_ends q.bonds k d e within in
+    let there : get_or g.bonds k e ≡ query_bond_ends b = ap (λ (h : Graph). get_or h.bonds k e) is
+    ∙ get_or-map query_bond_ends q.bonds k d e within in
     let in_graph : k < length g.bonds = omega (arith, length-shape q g is) in
     elim (cases_eq (max b.first b.second) next) [
       | inl last ↦ elim (larger b.first b.second next last) [
-        | inl first ↦ Walked-all g.bonds next link k e (KeepsAt m f p q.bonds) walked end in_graph (inl (ap (λ (x : Ends). x.first) there ∙ first)) d
-        | inr second ↦ Walked-all g.bonds next link k e (KeepsAt m f p q.bonds) walked end in_graph (inr (ap (λ (x : Ends). x.second) there ∙ second)) d
+        | inl first ↦ Walked-all g.bonds next link k e (KeepsAt m f p q.bonds) walked end in_graph
+            (inl (ap (λ (x : Ends). x.first) there ∙ first)) d
+        | inr second ↦ Walked-all g.bonds next link k e (KeepsAt m f p q.bonds) walked end in_graph
+            (inr (ap (λ (x : Ends). x.second) there ∙ second)) d
       ]
-      | inr before ↦ or_left (not (eqb (max b.first b.second) next)) _ (not_from_false _ (ne_eqb (max b.first b.second) next before))
+      | inr before ↦ or_left (not (eqb (max b.first b.second) next)) _
+          (not_from_false _ (ne_eqb (max b.first b.second) next before))
     ])

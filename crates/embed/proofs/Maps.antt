@@ -1,5 +1,5 @@
 -- How maps of the first atoms of a query grow into embeddings.
-use Rattle.std.proofs.Common.{◌≡◌, ◌≢◌, ℕ, zero, suc, ◌+◌, ◌-◌, ◌<◌, ◌≤◌, Bool, true, false, not, eqb, max, List, [], ◌∷◌, ◌++◌, length, get_or, take, All, refl, sym, ap, ◌∙◌, subst, inl, inr, arith, IsTrue}
+use Rattle.std.proofs.Common.{◌≡◌, ◌≢◌, ℕ, zero, suc, ◌+◌, ◌-◌, ◌<◌, ◌≤◌, true, false, not, eqb, max, List, [], ◌∷◌, ◌++◌, length, get_or, take, All, refl, sym, ap, ◌∙◌, subst, inl, inr, arith, IsTrue}
 use Rattle.std.specs.Prelude.{slice_get, slice_index, Some, None, Option, IsSome}
 use Rattle.std.specs.List.{list_any}
 use Rattle.std.proofs.lemmas.Bool.{and_parts, and_from, not-true, not_from_false, or_cases, or_left, or_right, cases_eq, eq-eqb, ne_eqb, cases_order, cases_lt}
@@ -13,6 +13,7 @@ use Rattle.htss_defs.specs.declared.query.QueryBond.{QueryBond}
 use Rattle.htss_defs.specs.Molecule.{Molecule}
 use Rattle.htss_defs.specs.QueryGraph.{QueryGraph, IsQuery, IsQueryBond}
 use Rattle.htss_defs.specs.Embedding.{IsFirstOrSame, place_of}
+use Rattle.htss_defs.proofs.Chains.{both}
 use Rattle.embed.specs.Tests.{passes, at_place, bond_lands, bond_keeps, bonds_keep, may_extend}
 use Rattle.embed.specs.Partial.{IsPartial, GoesOn, IsFirstFrom, IsStuck, NoneBy}
 use Rattle.embed.proofs.Order.{IsFirstOrSame-same, IsFirstOrSame-at}
@@ -55,13 +56,15 @@ eqb-not-true a b same differ = grind (arith, eq-eqb a b same)
 not_there : (f : List ℕ) (p k : ℕ) (d : ℕ) → k < length f → list_any (λ x. eqb x p) f ≡ false → get_or f k d ≢ p
 not_there f p k d within free = λ same. let found = list_any_at (λ x. eqb x p) f k d within (eq-eqb _ _ same) in cc
 
-at_last : (q : QueryGraph) (m : Molecule) (f : List ℕ) (p i : ℕ) → i ≡ length f → passes (slice_get q.atoms (length f)) (at_place m.atoms p) ≡ true
+at_last : (q : QueryGraph) (m : Molecule) (f : List ℕ) (p i : ℕ) → i ≡ length f
+    → passes (slice_get q.atoms (length f)) (at_place m.atoms p) ≡ true
     → IsTrue (passes (slice_get q.atoms i) (at_place m.atoms (slice_index (f ++ p ∷ []) i)))
 at_last q m f p i is passed = rw (get_or_push f p 0 i (sym is), is) passed
 
 -- a bond of the query within the map that is one atom longer
 bonds-push : (q : QueryGraph) (m : Molecule) (f : List ℕ) (p : ℕ) → IsQuery q → IsPartial q m f → Extends q m f p
-    → All (λ b. b.first ≤ length (f ++ p ∷ []) → b.second ≤ length (f ++ p ∷ []) → IsTrue (bond_lands m b (place_of (f ++ p ∷ []) b.first) (place_of (f ++ p ∷ []) b.second))) q.bonds
+    → All (λ b. b.first ≤ length (f ++ p ∷ []) → b.second ≤ length (f ++ p ∷ [])
+    → IsTrue (bond_lands m b (place_of (f ++ p ∷ []) b.first) (place_of (f ++ p ∷ []) b.second))) q.bonds
 bonds-push q m f p query partial extends k d within first second =
     let b : QueryBond = get_or q.bonds k d in
     let kept : bond_keeps m f p b ≡ true = AllPass-from_list_all _ q.bonds extends.bonds k d within in
@@ -75,10 +78,15 @@ bonds-push q m f p query partial extends k d within first second =
       | inr before ↦
           let first_in : b.first ≤ length f = omega arith in
           let second_in : b.second ≤ length f = omega arith in
-          rw (place_of_before f p b.first (omega (arith, valid.ends.first.0)) first_in, place_of_before f p b.second (omega (arith, valid.ends.second.0)) second_in) (partial.bonds k d within first_in second_in)
+          rw (
+            place_of_before f p b.first (omega (arith, valid.ends.first.0)) first_in,
+            place_of_before f p
+                b.second (omega (arith, valid.ends.second.0)) second_in,
+          ) (partial.bonds k d within first_in second_in)
     ]
 
-pub IsPartial-push : (q : QueryGraph) (m : Molecule) (f : List ℕ) (p : ℕ) → IsQuery q → IsPartial q m f → length f < length q.atoms → may_extend q m f p ≡ true → IsPartial q m (f ++ p ∷ [])
+pub IsPartial-push : (q : QueryGraph) (m : Molecule) (f : List ℕ) (p : ℕ) → IsQuery q → IsPartial q m f
+    → length f < length q.atoms → may_extend q m f p ≡ true → IsPartial q m (f ++ p ∷ [])
 IsPartial-push q m f p query partial more may =
     let extends : Extends q m f p = Extends-from q m f p may in
     let len = length_push f p in
@@ -97,7 +105,8 @@ IsPartial-push q m f p query partial more may =
 same-whole : (f h : List ℕ) → length h ≡ length f → take (length f) h ≡ f → f ≡ h
 same-whole f h len begins = sym begins ∙ take_all (length f) h (omega arith)
 
-pub IsFirstFrom-whole : (q : QueryGraph) (m : Molecule) (f : List ℕ) → IsQuery q → IsPartial q m f → length f ≡ length q.atoms → IsFirstFrom q m f f
+pub IsFirstFrom-whole : (q : QueryGraph) (m : Molecule) (f : List ℕ) → IsQuery q → IsPartial q m f
+    → length f ≡ length q.atoms → IsFirstFrom q m f f
 IsFirstFrom-whole q m f query partial all = record {
   goes_on = record {
     embeds = record {
@@ -110,17 +119,17 @@ IsFirstFrom-whole q m f query partial all = record {
     };
     begins = take_all (length f) f (omega arith);
   };
-  first = λ other on. subst (λ (g : List ℕ). IsFirstOrSame f g) (same-whole f other (omega (arith, on.embeds.one_each)) on.begins) (IsFirstOrSame-same f);
+  first = λ other on. subst (λ (g : List ℕ). IsFirstOrSame f g)
+      (same-whole f other (omega (arith, on.embeds.one_each)) on.begins) (IsFirstOrSame-same f);
 }
 
 -- ---- where the next atom stands
 
-both : {b : Bool} → b ≡ true → b ≡ false → ⊥
-both t f = absurd cc
-
-clash : (f h : List ℕ) (k d p : ℕ) → k < length f → length f < length h → take (length f) h ≡ f → slice_index h (length f) ≡ p → get_or f k d ≡ p → get_or h k d ≡ get_or h (length f) d
+clash : (f h : List ℕ) (k d p : ℕ) → k < length f → length f < length h → take (length f) h ≡ f
+    → slice_index h (length f) ≡ p → get_or f k d ≡ p → get_or h k d ≡ get_or h (length f) d
 clash f h k d p within in_h begins is same =
-    sym (get_or-take (length f) h k d within) ∙ ap (λ (g : List ℕ). get_or g k d) begins ∙ same ∙ sym is ∙ get_or_default h (length f) 0 d in_h
+    sym (get_or-take (length f) h k d within) ∙ ap (λ (g : List ℕ). get_or g k d) begins ∙ same ∙ sym is
+    ∙ get_or_default h (length f) 0 d in_h
 
 not-at-0 : (asked : Option QueryAtom) → passes asked None ≡ true → ⊥
 not-at-0 None passed = absurd cc
@@ -143,45 +152,69 @@ at_place-within xs p there =
       | inr more ↦ omega (arith, slice_get-within xs (p - 1) (rw (ne_eqb p 0 more) at there))
     ]
 
-within_atoms : (q : QueryGraph) (m : Molecule) (h : List ℕ) (k n : ℕ) → IsTrue (passes (slice_get q.atoms k) (at_place m.atoms (slice_index h k))) → length m.atoms ≤ n → slice_index h k ≤ n
+within_atoms : (q : QueryGraph) (m : Molecule) (h : List ℕ) (k n : ℕ)
+    → IsTrue (passes (slice_get q.atoms k) (at_place m.atoms (slice_index h k))) → length m.atoms ≤ n
+    → slice_index h k ≤ n
 within_atoms q m h k n passed all =
-    omega (arith, at_place-within m.atoms (slice_index h k) (passes-there (slice_get q.atoms k) (at_place m.atoms (slice_index h k)) passed))
+    omega (
+      arith,
+      at_place-within m.atoms (slice_index h k)
+          (passes-there (slice_get q.atoms k) (at_place m.atoms (slice_index h k)) passed),
+    )
 
 shorter-front : (f g : List ℕ) (p : ℕ) → take (length f + 1) g ≡ f ++ p ∷ [] → take (length f) g ≡ f
 shorter-front f g p begins =
-    sym (take-take (length f) (length f + 1) g (omega arith)) ∙ ap (take (length f)) begins ∙ take_at f (p ∷ []) (length f) refl
+    sym (take-take (length f) (length f + 1) g (omega arith)) ∙ ap (take (length f)) begins
+    ∙ take_at f (p ∷ []) (length f) refl
 
 at-front : (f g : List ℕ) (p : ℕ) → take (length f + 1) g ≡ f ++ p ∷ [] → slice_index g (length f) ≡ p
 at-front f g p begins =
-    sym (get_or-take (length f + 1) g (length f) 0 (omega arith)) ∙ ap (λ (x : List ℕ). get_or x (length f) 0) begins ∙ get_or_push f p 0 (length f) refl
+    sym (get_or-take (length f + 1) g (length f) 0 (omega arith))
+    ∙ ap (λ (x : List ℕ). get_or x (length f) 0) begins ∙ get_or_push f p 0 (length f) refl
 
 -- an embedding that goes on from f goes on from f and the place of the next atom
-next-begins : (q : QueryGraph) (m : Molecule) (f h : List ℕ) (p : ℕ) → GoesOn q m f h → length f < length q.atoms → slice_index h (length f) ≡ p → take (length f + 1) h ≡ f ++ p ∷ []
+next-begins : (q : QueryGraph) (m : Molecule) (f h : List ℕ) (p : ℕ) → GoesOn q m f h
+    → length f < length q.atoms → slice_index h (length f) ≡ p → take (length f + 1) h ≡ f ++ p ∷ []
 next-begins q m f h p on more is =
-    take_more h (length f) 0 (omega (arith, on.embeds.one_each)) ∙ ap (λ (g : List ℕ). g ++ slice_index h (length f) ∷ []) on.begins ∙ ap (λ (x : ℕ). f ++ x ∷ []) is
+    take_more h (length f) 0 (omega (arith, on.embeds.one_each))
+    ∙ ap (λ (g : List ℕ). g ++ slice_index h (length f) ∷ []) on.begins ∙ ap (λ (x : ℕ). f ++ x ∷ []) is
 
-pub GoesOn-next : (q : QueryGraph) (m : Molecule) (f h : List ℕ) (p : ℕ) → GoesOn q m f h → length f < length q.atoms → slice_index h (length f) ≡ p → GoesOn q m (f ++ p ∷ []) h
+pub GoesOn-next : (q : QueryGraph) (m : Molecule) (f h : List ℕ) (p : ℕ) → GoesOn q m f h
+    → length f < length q.atoms → slice_index h (length f) ≡ p → GoesOn q m (f ++ p ∷ []) h
 GoesOn-next q m f h p on more is =
     record { embeds = on.embeds; begins = rw (length_push f p) (next-begins q m f h p on more is) }
 
 place_of-taken : (f h : List ℕ) (n u : ℕ) → take n h ≡ f → 1 ≤ u → u ≤ n → place_of f u ≡ place_of h u
-place_of-taken f h n u begins low high = ap (λ (g : List ℕ). get_or g (u - 1) 0) (sym begins) ∙ get_or-take n h (u - 1) 0 (omega arith)
+place_of-taken f h n u begins low high = ap (λ (g : List ℕ). get_or g (u - 1) 0) (sym begins)
+    ∙ get_or-take n h (u - 1) 0 (omega arith)
 
 -- the next atom may stand where an embedding has it
-may-from_embedding : (q : QueryGraph) (m : Molecule) (f h : List ℕ) (p : ℕ) → IsQuery q → GoesOn q m f h → length f < length q.atoms → slice_index h (length f) ≡ p → may_extend q m f p ≡ true
+may-from_embedding : (q : QueryGraph) (m : Molecule) (f h : List ℕ) (p : ℕ) → IsQuery q → GoesOn q m f h
+    → length f < length q.atoms → slice_index h (length f) ≡ p → may_extend q m f p ≡ true
 may-from_embedding q m f h p query on more is =
     let e = on.embeds in
     let in_h : length f < length h = omega (arith, e.one_each) in
     let begins = next-begins q m f h p on more is in
     may_extend-from q m f p (record {
-      free = list_any_none (λ x. eqb x p) f (λ k d within. ne_eqb (get_or f k d) p (λ same. e.apart k (length f) d within in_h (clash f h k d p within in_h on.begins is same)));
-      atom = subst (λ (x : ℕ). IsTrue (passes (slice_get q.atoms (length f)) (at_place m.atoms x))) is (e.atoms (length f) in_h);
+      free = list_any_none (λ x. eqb x p) f
+          (λ k d within. ne_eqb (get_or f k d) p
+          (λ same. e.apart k (length f) d within in_h (clash f h k d p within in_h on.begins is same)));
+      atom = subst (λ (x : ℕ). IsTrue (passes (slice_get q.atoms (length f)) (at_place m.atoms x))) is
+          (e.atoms (length f) in_h);
       bonds = list_all-from_AllPass (bond_keeps m f p) q.bonds (λ k d within.
           let b : QueryBond = get_or q.bonds k d in
           let valid : IsQueryBond (length q.atoms) b = query.each_bond k d within in
           elim (cases_eq (max b.first b.second) (length f + 1)) [
-            | inl last ↦ or_right (not (eqb (max b.first b.second) (length f + 1))) _ (rw (place_of-taken (f ++ p ∷ []) h (length f + 1) b.first begins valid.ends.first.0 (omega arith), place_of-taken (f ++ p ∷ []) h (length f + 1) b.second begins valid.ends.second.0 (omega arith)) (e.bonds k d within))
-            | inr before ↦ or_left _ (bond_lands m b (place_of (f ++ p ∷ []) b.first) (place_of (f ++ p ∷ []) b.second)) (not_from_false _ (ne_eqb (max b.first b.second) (length f + 1) before))
+            | inl last ↦ or_right (not (eqb (max b.first b.second) (length f + 1))) _
+                (rw (
+                  place_of-taken (f ++ p ∷ []) h (length f + 1) b.first begins valid.ends.first.0
+                      (omega arith),
+                  place_of-taken (f ++ p ∷ []) h
+                      (length f + 1) b.second begins valid.ends.second.0 (omega arith),
+                ) (e.bonds k d within))
+            | inr before ↦ or_left _ (bond_lands m b (place_of (f ++ p ∷ []) b.first)
+                (place_of (f ++ p ∷ []) b.second))
+                (not_from_false _ (ne_eqb (max b.first b.second) (length f + 1) before))
           ]);
     })
 
@@ -197,7 +230,8 @@ NoneBy-start q m f query more = record {
       no-atom-at-0 q m f (may-from_embedding q m f whole 0 query on more (omega arith));
 }
 
-pub NoneBy-refused : (q : QueryGraph) (m : Molecule) (f : List ℕ) (n : ℕ) → IsQuery q → length f < length q.atoms → NoneBy q m f n → may_extend q m f (n + 1) ≡ false → NoneBy q m f (n + 1)
+pub NoneBy-refused : (q : QueryGraph) (m : Molecule) (f : List ℕ) (n : ℕ) → IsQuery q
+    → length f < length q.atoms → NoneBy q m f n → may_extend q m f (n + 1) ≡ false → NoneBy q m f (n + 1)
 NoneBy-refused q m f n query more none refused = record {
   none = λ whole on le.
       elim (cases_lt (slice_index whole (length f)) (n + 1)) [
@@ -206,7 +240,8 @@ NoneBy-refused q m f n query more none refused = record {
       ];
 }
 
-pub NoneBy-stuck : (q : QueryGraph) (m : Molecule) (f : List ℕ) (n : ℕ) → length f < length q.atoms → NoneBy q m f n → IsStuck q m (f ++ (n + 1) ∷ []) → NoneBy q m f (n + 1)
+pub NoneBy-stuck : (q : QueryGraph) (m : Molecule) (f : List ℕ) (n : ℕ) → length f < length q.atoms
+    → NoneBy q m f n → IsStuck q m (f ++ (n + 1) ∷ []) → NoneBy q m f (n + 1)
 NoneBy-stuck q m f n more none stuck = record {
   none = λ whole on le.
       elim (cases_lt (slice_index whole (length f)) (n + 1)) [
@@ -215,11 +250,14 @@ NoneBy-stuck q m f n more none stuck = record {
       ];
 }
 
-pub IsStuck-from : (q : QueryGraph) (m : Molecule) (f : List ℕ) (n : ℕ) → length m.atoms ≤ n → length f < length q.atoms → NoneBy q m f n → IsStuck q m f
+pub IsStuck-from : (q : QueryGraph) (m : Molecule) (f : List ℕ) (n : ℕ) → length m.atoms ≤ n
+    → length f < length q.atoms → NoneBy q m f n → IsStuck q m f
 IsStuck-from q m f n all more none whole on =
-    none.none whole on (within_atoms q m whole (length f) n (on.embeds.atoms (length f) (omega (arith, on.embeds.one_each))) all)
+    none.none whole on (within_atoms q m whole (length f) n
+    (on.embeds.atoms (length f) (omega (arith, on.embeds.one_each))) all)
 
-pub IsFirstFrom-next : (q : QueryGraph) (m : Molecule) (f g : List ℕ) (n : ℕ) → length f < length q.atoms → NoneBy q m f n → IsFirstFrom q m (f ++ (n + 1) ∷ []) g → IsFirstFrom q m f g
+pub IsFirstFrom-next : (q : QueryGraph) (m : Molecule) (f g : List ℕ) (n : ℕ) → length f < length q.atoms
+    → NoneBy q m f n → IsFirstFrom q m (f ++ (n + 1) ∷ []) g → IsFirstFrom q m f g
 IsFirstFrom-next q m f g n more none from =
     let on = from.goes_on in
     let begins : take (length f + 1) g ≡ f ++ (n + 1) ∷ [] = rw (length_push f (n + 1)) at on.begins in
@@ -230,37 +268,45 @@ IsFirstFrom-next q m f g n more none from =
       first = λ other goes. elim (cases_order (slice_index other (length f)) (n + 1)) [
         | inl same ↦ from.first other (GoesOn-next q m f other (n + 1) goes more same)
         | inr (inl below) ↦ absurd (none.none other goes (omega arith))
-        | inr (inr above) ↦ IsFirstOrSame-at (length f) g other (shorter ∙ sym goes.begins) (omega (arith, on.embeds.one_each)) (omega (arith, goes.embeds.one_each)) (omega arith)
+        | inr (inr above) ↦ IsFirstOrSame-at (length f) g other (shorter ∙ sym goes.begins)
+            (omega (arith, on.embeds.one_each)) (omega (arith, goes.embeds.one_each)) (omega arith)
       ];
     }
 
 -- ---- the same at the values of the code
 
-pub IsPartial-pushed : (q : QueryGraph) (m : Molecule) (f slice g longer : List ℕ) (p : ℕ) → IsQuery q → IsPartial q m f → length f < length q.atoms
+pub IsPartial-pushed : (q : QueryGraph) (m : Molecule) (f slice g longer : List ℕ) (p : ℕ) → IsQuery q
+    → IsPartial q m f → length f < length q.atoms
     → g ≡ f → slice ≡ g → longer ≡ g ++ p ∷ [] → may_extend q m slice p ≡ true → IsPartial q m longer
 IsPartial-pushed q m f slice g longer p query partial more same slice-is pushed may =
     let e : longer ≡ f ++ p ∷ [] = pushed ∙ ap (λ (x : List ℕ). x ++ p ∷ []) same in
     let may' : may_extend q m f p ≡ true = subst (λ (x : List ℕ). may_extend q m x p ≡ true) (slice-is ∙ same) may in
     subst (λ (x : List ℕ). IsPartial q m x) (sym e) (IsPartial-push q m f p query partial more may')
 
-pub IsFirstFrom-pushed : (q : QueryGraph) (m : Molecule) (f g longer whole : List ℕ) (n : ℕ) → length f < length q.atoms → NoneBy q m f n
+pub IsFirstFrom-pushed : (q : QueryGraph) (m : Molecule) (f g longer whole : List ℕ) (n : ℕ)
+    → length f < length q.atoms → NoneBy q m f n
     → g ≡ f → longer ≡ g ++ (n + 1) ∷ [] → IsFirstFrom q m longer whole → IsFirstFrom q m f whole
 IsFirstFrom-pushed q m f g longer whole n more none same pushed from =
     let e : longer ≡ f ++ (n + 1) ∷ [] = pushed ∙ ap (λ (x : List ℕ). x ++ (n + 1) ∷ []) same in
     IsFirstFrom-next q m f whole n more none (subst (λ (x : List ℕ). IsFirstFrom q m x whole) e from)
 
-pub NoneBy-popped : (q : QueryGraph) (m : Molecule) (f g longer : List ℕ) (n : ℕ) → length f < length q.atoms → NoneBy q m f n
+pub NoneBy-popped : (q : QueryGraph) (m : Molecule) (f g longer : List ℕ) (n : ℕ) → length f < length q.atoms
+    → NoneBy q m f n
     → g ≡ f → longer ≡ g ++ (n + 1) ∷ [] → IsStuck q m longer → NoneBy q m f (n + 1)
 NoneBy-popped q m f g longer n more none same pushed stuck =
     let e : longer ≡ f ++ (n + 1) ∷ [] = pushed ∙ ap (λ (x : List ℕ). x ++ (n + 1) ∷ []) same in
     NoneBy-stuck q m f n more none (subst (λ (x : List ℕ). IsStuck q m x) e stuck)
 
-pub NoneBy-passed : (q : QueryGraph) (m : Molecule) (f slice g : List ℕ) (n : ℕ) → IsQuery q → length f < length q.atoms → NoneBy q m f n
+pub NoneBy-passed : (q : QueryGraph) (m : Molecule) (f slice g : List ℕ) (n : ℕ) → IsQuery q
+    → length f < length q.atoms → NoneBy q m f n
     → g ≡ f → slice ≡ g → may_extend q m slice (n + 1) ≡ false → NoneBy q m f (n + 1)
 NoneBy-passed q m f slice g n query more none same slice-is refused =
-    NoneBy-refused q m f n query more none (subst (λ (x : List ℕ). may_extend q m x (n + 1) ≡ false) (slice-is ∙ same) refused)
+    NoneBy-refused q m f n query more none
+    (subst (λ (x : List ℕ). may_extend q m x (n + 1) ≡ false) (slice-is ∙ same) refused)
 
-pub popped : (f g longer back shorter : List ℕ) (p : ℕ) → g ≡ f → longer ≡ g ++ p ∷ [] → back ≡ longer → shorter ≡ take (length back - 1) back → shorter ≡ f
+pub popped : (f g longer back shorter : List ℕ) (p : ℕ) → g ≡ f → longer ≡ g ++ p ∷ [] → back ≡ longer
+    → shorter ≡ take (length back - 1) back → shorter ≡ f
 popped f g longer back shorter p same pushed is rest =
     let e : back ≡ f ++ p ∷ [] = is ∙ pushed ∙ ap (λ (x : List ℕ). x ++ p ∷ []) same in
-    rest ∙ ap (λ (x : List ℕ). take (length x - 1) x) e ∙ take_at f (p ∷ []) (length (f ++ p ∷ []) - 1) (omega (arith, length_push f p))
+    rest ∙ ap (λ (x : List ℕ). take (length x - 1) x) e
+    ∙ take_at f (p ∷ []) (length (f ++ p ∷ []) - 1) (omega (arith, length_push f p))

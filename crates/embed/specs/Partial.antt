@@ -10,7 +10,8 @@ pub record IsPartial (q : QueryGraph) (m : Molecule) (map : List ℕ) : Type 0 w
   pub fits : length map ≤ length q.atoms
   pub apart : AllPairs (λ x y. x ≢ y) map
   pub atoms : EachIndex map (λ i. IsTrue (passes (slice_get q.atoms i) (at_place m.atoms (slice_index map i))))
-  pub bonds : All (λ b. b.first ≤ length map → b.second ≤ length map → IsTrue (bond_lands m b (place_of map b.first) (place_of map b.second))) q.bonds
+  pub bonds : All (λ b. b.first ≤ length map → b.second ≤ length map
+      → IsTrue (bond_lands m b (place_of map b.first) (place_of map b.second))) q.bonds
 
 -- an embedding that goes on from the map
 pub record GoesOn (q : QueryGraph) (m : Molecule) (map whole : List ℕ) : Type 0 where

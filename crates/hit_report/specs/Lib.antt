@@ -1,2 +1,3 @@
 pub mod HitLines
+pub mod RecordLines
 pub mod Appends

@@ -1,10 +1,10 @@
 // Lines are appended to a text that is lent; where memory runs out the text is cut to what it was.
-ghost use Rattle.std.specs.Prelude.{◌≡◌, ℕ, ◌∷◌, ◌++◌, [], OnOk, OnErr, decimal, take};
-ghost use Rattle.hit_report.specs.HitLines.{hit_line, count_line, map_text, name_text};
+ghost use Rattle.std.specs.Prelude.{◌≡◌, ℕ, ◌∷◌, ◌++◌, [], OnOk, OnErr, decimal};
+ghost use Rattle.hit_report.specs.HitLines.{hit_line, count_line, map_text};
 ghost use Rattle.hit_report.specs.Appends.{KeepsFront};
 
+use crate::append::{append_bytes, append_name, append_number, kept_or_cut};
 use htss_defs::OutOfMemory;
-use itoa::Buffer;
 
 /// Appends the line of a hit, `hit NUMBER MAP NAME`. An `Err` leaves the text as it was.
 pub fn push_hit(
@@ -32,22 +32,6 @@ pub fn push_count(text: &mut Vec<u8>, count: u32) -> Result<(), OutOfMemory>
     kept_or_cut(text, before, appended)
 }
 
-// Cuts the text to the length before, where it was not appended to whole.
-fn kept_or_cut(
-    text: &mut Vec<u8>,
-    before: usize,
-    appended: Result<(), OutOfMemory>,
-) -> Result<(), OutOfMemory>
-    ensures same { result ≡ appended }
-    ensures ok { OnOk appended (text.new.items ≡ text.old.items) }
-    ensures err { OnErr appended (text.new.items ≡ take before text.old.items) }
-{
-    if appended.is_err() {
-        text.truncate(before);
-    }
-    appended
-}
-
 #[tactic(auto, using(crate::proofs::Fronts::front_trans), unfolding(crate::specs::HitLines::hit_line))]
 fn append_hit(text: &mut Vec<u8>, number: u32, map: &[u16], name: &[u8]) -> Result<(), OutOfMemory>
     ensures ok { OnOk result (text.new.items
@@ -55,7 +39,7 @@ fn append_hit(text: &mut Vec<u8>, number: u32, map: &[u16], name: &[u8]) -> Resu
     ensures front { KeepsFront text.old.items text.new.items }
 {
     append_bytes(text, b"hit ")?;
-    append_number(text, number)?;
+    append_number(text, u64::from(number))?;
     append_bytes(text, b" ")?;
     append_map(text, map)?;
     append_name(text, name)?;
@@ -68,24 +52,8 @@ fn append_count(text: &mut Vec<u8>, count: u32) -> Result<(), OutOfMemory>
     ensures front { KeepsFront text.old.items text.new.items }
 {
     append_bytes(text, b"hits ")?;
-    append_number(text, count)?;
+    append_number(text, u64::from(count))?;
     append_bytes(text, b"\n")
-}
-
-fn append_bytes(text: &mut Vec<u8>, bytes: &[u8]) -> Result<(), OutOfMemory>
-    ensures ok { OnOk result (text.new.items ≡ text.old.items ++ bytes.now) }
-    ensures front { KeepsFront text.old.items text.new.items }
-{
-    text.extend_from_slice(bytes)?;
-    Ok(())
-}
-
-fn append_number(text: &mut Vec<u8>, number: u32) -> Result<(), OutOfMemory>
-    ensures ok { OnOk result (text.new.items ≡ text.old.items ++ decimal number) }
-    ensures front { KeepsFront text.old.items text.new.items }
-{
-    let mut digits = Buffer::new();
-    append_bytes(text, digits.format(number).as_bytes())
 }
 
 #[tactic(auto, using(crate::proofs::Fronts::front_trans))]
@@ -96,7 +64,7 @@ fn append_map(text: &mut Vec<u8>, map: &[u16]) -> Result<(), OutOfMemory>
     let [first, others @ ..] = map else {
         return Ok(());
     };
-    append_number(text, u32::from(*first))?;
+    append_number(text, u64::from(*first))?;
     for place in others {
         append_next_place(text, *place)?;
     }
@@ -109,17 +77,5 @@ fn append_next_place(text: &mut Vec<u8>, place: u16) -> Result<(), OutOfMemory>
     ensures front { KeepsFront text.old.items text.new.items }
 {
     append_bytes(text, b",")?;
-    append_number(text, u32::from(place))
-}
-
-#[tactic(auto, using(crate::proofs::Fronts::front_trans))]
-fn append_name(text: &mut Vec<u8>, name: &[u8]) -> Result<(), OutOfMemory>
-    ensures ok { OnOk result (text.new.items ≡ text.old.items ++ name_text name.now) }
-    ensures front { KeepsFront text.old.items text.new.items }
-{
-    if name.is_empty() {
-        return Ok(());
-    }
-    append_bytes(text, b" ")?;
-    append_bytes(text, name)
+    append_number(text, u64::from(place))
 }

@@ -1,8 +1,11 @@
-//! The lines of hits, as `find` and the report of a registry print them.
+//! The lines of hits, records and refusals, as the commands and the report of a registry print them.
 #![tactic(auto)]
 
+mod append;
 mod hit_lines;
+mod record_lines;
 #[cfg(test)]
 mod tests;
 
 pub use hit_lines::{push_count, push_hit};
+pub use record_lines::{code_word, push_ok, push_records, push_refused};

@@ -1,5 +1,5 @@
 // The lines as they are printed.
-use crate::{push_count, push_hit};
+use crate::{push_count, push_hit, push_ok, push_records, push_refused};
 use std::test::Fail;
 
 #[test]
@@ -11,6 +11,20 @@ fn lines_are_appended(rt: HostRuntime) -> Result<(), Fail> {
     assert_eq!(rt;
         text.as_slice(),
         b"refused\nhit 12 3\nhit 4294967295 2,999,1 a b\nhits 2\n".as_slice()
+    );
+    Ok(())
+}
+
+#[test]
+fn lines_of_records_are_appended(rt: HostRuntime) -> Result<(), Fail> {
+    let mut text = Vec::new(rt.alloc());
+    push_ok(&mut text, 1, 3, 2, b"ethanol")?;
+    push_ok(&mut text, 2, 1, 0, b"")?;
+    push_refused(&mut text, 3, 18446744073709551615, 9)?;
+    push_records(&mut text, 3, 2, 1)?;
+    assert_eq!(rt;
+        text.as_slice(),
+        b"ok 1 3 2 ethanol\nok 2 1 0\nrefused 3 18446744073709551615 9 BondType\nrecords 3 ok 2 refused 1\n".as_slice()
     );
     Ok(())
 }

@@ -3,8 +3,10 @@ pub mod Adjacency
 pub mod Elements
 pub mod Molecule
 pub mod QueryGraph
+pub mod Marked
 pub mod Name
 pub mod Passes
 pub mod Embedding
+pub mod Cost
 pub mod History
 pub mod Hits

@@ -1,5 +1,7 @@
-ghost use Rattle.std.specs.Prelude.{◌≡◌, ℕ, ◌≤◌, ◌↔◌, IsTrue, IsSome, IfSome, All, AllPairs, length};
-ghost use Rattle.htss_defs.specs.Molecule.{IsAtom, IsBond, IsMolecule, Molecule, AreBondsApart, bond_ends, molecule_graph};
+ghost use Rattle.std.specs.Prelude.{◌≡◌, ℕ, ◌<◌, ◌≤◌, ◌↔◌, IsTrue, IsSome, IfSome, All, AllPairs, length};
+ghost use Rattle.htss_defs.specs.Molecule.{IsAtom, IsBond, IsMolecule, Molecule, AreBondsApart};
+ghost use Rattle.htss_defs.specs.Molecule.{bond_ends, molecule_graph};
+ghost use Rattle.htss_defs.specs.Marked.{with_ring};
 
 use crate::adjacency::Adjacency;
 use crate::graph::{Ends, are_ends};
@@ -63,6 +65,14 @@ impl Mol {
         }
     }
 
+    /// The molecule of lists that keep the rules. It takes no memory.
+    pub fn of_valid(atoms: Vec<Atom>, bonds: Vec<Bond>) -> Mol
+        requires { IsMolecule (record { atoms = atoms.items; bonds = bonds.items }) }
+        ensures { result ≡ record { atoms = atoms.items; bonds = bonds.items } }
+    {
+        Mol { atoms, bonds }
+    }
+
     /// The atoms.
     pub fn atoms(&self) -> &[Atom]
         ensures items { result.now ≡ self.now.atoms }
@@ -77,6 +87,14 @@ impl Mol {
         ensures valid { IsMolecule self.now }
     {
         &self.bonds
+    }
+
+    /// Sets the flag of one bond.
+    pub fn set_ring(&mut self, bond: usize, ring: bool)
+        requires { bond < length self.old.bonds }
+        ensures { self.new ≡ with_ring self.old bond ring }
+    {
+        self.bonds[bond].ring = ring;
     }
 
     /// Makes the adjacency that of the molecule, whatever it was.

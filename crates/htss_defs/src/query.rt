@@ -1,5 +1,7 @@
 ghost use Rattle.std.specs.Prelude.{◌≡◌, ℕ, ◌≤◌, ◌↔◌, IsTrue, IsSome, IfSome, All, AllPairs, length};
-ghost use Rattle.htss_defs.specs.QueryGraph.{IsAtomTest, IsQueryAtom, IsQueryBond, IsQuery, QueryGraph, AreQueryBondsApart, query_bond_ends, query_shape};
+ghost use Rattle.htss_defs.specs.QueryGraph.{IsAtomTest, IsQueryAtom, IsQueryBond, IsQuery};
+ghost use Rattle.htss_defs.specs.QueryGraph.{QueryGraph, AreQueryBondsApart, query_bond_ends};
+ghost use Rattle.htss_defs.specs.QueryGraph.{query_shape};
 
 use crate::adjacency::Adjacency;
 use crate::graph::{Ends, are_ends};

@@ -1,4 +1,5 @@
 pub mod Publications
-pub mod Found
+pub mod Taken
 pub mod Writing
 pub mod Causes
+pub mod Streams

@@ -1,15 +1,14 @@
 -- What a call of the program promises: an outcome with its cause, and the status and the bytes that it leaves.
 use Rattle.std.specs.Prelude.{◌≡◌, ◌⊎◌, ℕ, ◌≤◌, List, Option, None, Some}
 use Rattle.std.specs.Io.KnownBytes.{append_known}
-use Rattle.htss_defs.specs.declared.record.NamedMol.{NamedMol}
 use Rattle.htss_defs.specs.QueryGraph.{QueryGraph}
-use Rattle.ctfile.specs.Plain.{IsPlainFile, IsPlainQuery}
+use Rattle.ctfile.specs.Plain.{IsPlainQuery}
 use Rattle.outside.specs.Files.{File, WasRead, IsLarge}
 use Rattle.outside.specs.Causes.{Rose, IsAbsent}
 use Rattle.outside.specs.Written.{GrewByFront}
-use Rattle.htss_main.specs.Tasks.{Task, find_in, task_of}
+use Rattle.htss_main.specs.Tasks.{Task, check_of, find_in, task_of}
 use Rattle.htss_main.specs.Outcomes.{Outcome, done, not_a_command, out_of_memory, read_failed, file_absent, file_too_large, file_not_plain, status_of, text_of}
-use Rattle.htss_main.specs.FindText.{IsFindText, QueryWasRead}
+use Rattle.htss_main.specs.FindText.{IsCheckText, IsFindText, QueryWasRead}
 
 -- what a shelf tells and has counted at one moment
 pub record ShelfSeen : Type 0 where
@@ -35,21 +34,22 @@ pub record ShelfGoesOn (before now : ShelfSeen) : Type 0 where
   pub absent : before.absent ≤ now.absent
   pub faults : before.faults ≤ now.faults
 
--- the task comes to read this file: the query first, the SDfile where the query was read and is one
+-- the task comes to read this file: of `find` the query first, and the SDfile where the query was read and is one
 abbrev pub ComesToRead : Option (List File) → Task → List ℕ → Type 0
 ComesToRead told (find_in sdf query) name =
     (name ≡ query) ⊎ ((name ≡ sdf) × (asked : QueryGraph) × QueryWasRead told query asked)
+ComesToRead told (check_of sdf) name = name ≡ sdf
 
--- a file that the task comes to read is not of the plain form that it should have there
+-- the query of the task was read, and is not of the plain form
 abbrev pub IsNotPlain : Option (List File) → Task → List ℕ → Type 0
 IsNotPlain told (find_in sdf query) name =
-    ((name ≡ query) × (bytes : List ℕ) × WasRead told query bytes × ((asked : QueryGraph) → IsPlainQuery bytes asked → ⊥))
-    ⊎ ((name ≡ sdf) × (asked : QueryGraph) × QueryWasRead told query asked
-    × (bytes : List ℕ) × WasRead told sdf bytes × ((records : List NamedMol) → IsPlainFile bytes records → ⊥))
+    (name ≡ query) × (bytes : List ℕ) × WasRead told query bytes × ((asked : QueryGraph) → IsPlainQuery bytes asked → ⊥)
+IsNotPlain told (check_of sdf) name = ⊥
 
 -- the text is one that the task may have
 abbrev pub IsTextOf : Option (List File) → Task → List ℕ → Type 0
 IsTextOf told (find_in sdf query) text = IsFindText told sdf query text
+IsTextOf told (check_of sdf) text = IsCheckText told sdf text
 
 -- between these moments the task may come out so: each outcome has its cause, but for want of memory
 abbrev pub MayComeOut : Option Task → ShelfSeen → ShelfSeen → Outcome → Type 0

@@ -1,13 +1,16 @@
--- The text of `find`, from the bytes of its two files.
-use Rattle.std.specs.Prelude.{◌≡◌, ℕ, List, Option}
+-- The texts of `find` and `check`, from the bytes of their files.
+use Rattle.std.specs.Prelude.{◌≡◌, ℕ, List, ◌++◌, Option}
 use Rattle.htss_defs.specs.declared.history.Hit.{Hit}
 use Rattle.htss_defs.specs.declared.record.NamedMol.{NamedMol}
 use Rattle.htss_defs.specs.QueryGraph.{QueryGraph}
 use Rattle.htss_defs.specs.History.{publications}
 use Rattle.htss_defs.specs.Hits.{AreHits}
 use Rattle.hit_report.specs.HitLines.{hits_text}
-use Rattle.ctfile.specs.Plain.{IsPlainFile, IsPlainQuery}
+use Rattle.mol_section.specs.SectionRecord.{Outcome}
+use Rattle.ctfile.specs.Plain.{IsPlainQuery}
+use Rattle.ctfile.specs.RecordList.{IsRecordList}
 use Rattle.outside.specs.Files.{File, WasRead}
+use Rattle.htss_main.specs.RecordTexts.{accepted_records, check_text, refused_lines}
 
 -- the file was read, and is a plain query
 pub record QueryWasRead (told : Option (List File)) (name : List ℕ) (query : QueryGraph) : Type 0 where
@@ -15,11 +18,11 @@ pub record QueryWasRead (told : Option (List File)) (name : List ℕ) (query : Q
   pub read : WasRead told name bytes
   pub plain : IsPlainQuery bytes query
 
--- the file was read, and is a plain SDfile with these records
-pub record RecordsWereRead (told : Option (List File)) (name : List ℕ) (records : List NamedMol) : Type 0 where
+-- the file was read, and these are the outcomes of its records
+pub record RecordsWereRead (told : Option (List File)) (name : List ℕ) (outcomes : List Outcome) : Type 0 where
   pub bytes : List ℕ
   pub read : WasRead told name bytes
-  pub plain : IsPlainFile bytes records
+  pub are : IsRecordList bytes outcomes
 
 -- the text is that of the hits of these records
 pub record IsHitsText (query : QueryGraph) (records : List NamedMol) (text : List ℕ) : Type 0 where
@@ -27,10 +30,18 @@ pub record IsHitsText (query : QueryGraph) (records : List NamedMol) (text : Lis
   pub are : AreHits query (publications records) hits
   pub text_is : text ≡ hits_text hits
 
--- the text is that of the hits of the query among the records, as the two files have them
+-- the refused records of the SDfile, and then the hits of the query among the others, as the two files have them
 pub record IsFindText (told : Option (List File)) (sdf query : List ℕ) (text : List ℕ) : Type 0 where
   pub asked : QueryGraph
-  pub records : List NamedMol
+  pub outcomes : List Outcome
   pub query_read : QueryWasRead told query asked
-  pub records_read : RecordsWereRead told sdf records
-  pub hits : IsHitsText asked records text
+  pub records_read : RecordsWereRead told sdf outcomes
+  pub hits : List ℕ
+  pub are_hits : IsHitsText asked (accepted_records outcomes) hits
+  pub text_is : text ≡ refused_lines 1 outcomes ++ hits
+
+-- the records of the SDfile
+pub record IsCheckText (told : Option (List File)) (sdf : List ℕ) (text : List ℕ) : Type 0 where
+  pub outcomes : List Outcome
+  pub records_read : RecordsWereRead told sdf outcomes
+  pub text_is : text ≡ check_text outcomes

@@ -1,4 +1,6 @@
 pub mod Tasks
 pub mod Outcomes
+pub mod RecordTexts
 pub mod FindText
 pub mod Ends
+pub mod Takers

@@ -1,6 +1,8 @@
 -- How a command comes out: its text, or why it stopped, with the status and the text of each (this project's own).
 use Rattle.std.specs.Prelude.{ℕ, List, [], ◌∷◌, ◌++◌}
 use lib.Chars.{codes}
+use Rattle.outside.specs.declared.whole.ReadStop.{ReadStop}
+use Rattle.outside.specs.declared.whole.ReadStop.TheVariants.{Absent as IsGone, Failed as HasFailed, TooLarge as IsTooLarge, OutOfMemory}
 use Rattle.htss_main.specs.declared.stop.Stop.{Stop}
 use Rattle.htss_main.specs.declared.stop.Stop.TheVariants.{Usage, Memory, Failed, Absent, TooLarge, NotPlain}
 
@@ -43,3 +45,10 @@ stop_outcome (Failed name) = read_failed name.now
 stop_outcome (Absent name) = file_absent name.now
 stop_outcome (TooLarge name) = file_too_large name.now
 stop_outcome (NotPlain name) = file_not_plain name.now
+
+-- the outcome of a stop of reading
+abbrev pub read_outcome : ReadStop → List ℕ → Outcome
+read_outcome IsGone name = file_absent name
+read_outcome HasFailed name = read_failed name
+read_outcome IsTooLarge name = file_too_large name
+read_outcome OutOfMemory name = out_of_memory

@@ -2,8 +2,13 @@
 //! a query molecule embeds.
 #![tactic(auto)]
 
-mod hits;
+mod check_taker;
+#[cfg(test)]
+mod check_tests;
+mod find_taker;
+mod list;
 mod stop;
+mod taker;
 #[cfg(test)]
 mod tests;
 mod tool;

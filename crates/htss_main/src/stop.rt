@@ -3,9 +3,9 @@ ghost use Rattle.std.specs.Prelude.{◌≡◌, ◌≢◌, ℕ, ◌≤◌, ◌++�
 ghost use Rattle.std.specs.Io.KnownBytes.{append_known};
 ghost use Rattle.outside.specs.Causes.{Rose};
 ghost use Rattle.outside.specs.Written.{GrewByFront};
-ghost use Rattle.htss_main.specs.Outcomes.{line, status_of, stop_outcome, text_of};
+ghost use Rattle.htss_main.specs.Outcomes.{line, read_outcome, status_of, stop_outcome, text_of};
 
-use outside::{Failed, Sink, write_whole};
+use outside::{Failed, ReadStop, Sink, write_whole};
 
 /// Why a command stopped. The name is that of the file.
 #[derive(Clone, Copy, Debug)]
@@ -22,6 +22,18 @@ pub enum Stop<'a> {
     TooLarge(&'a str),
     /// The file is not of the plain form.
     NotPlain(&'a str),
+}
+
+/// Why a read of the file with this name stopped.
+pub fn read_stop(stop: ReadStop, name: &str) -> Stop<'_>
+    ensures { stop_outcome result ≡ read_outcome stop name.now }
+{
+    match stop {
+        ReadStop::Absent => Stop::Absent(name),
+        ReadStop::Failed => Stop::Failed(name),
+        ReadStop::TooLarge => Stop::TooLarge(name),
+        ReadStop::OutOfMemory => Stop::Memory,
+    }
 }
 
 /// The status of a stop: 2, 4, 6, 7, 8 or 9.

@@ -17,6 +17,12 @@ const ETHER: &str =
 const CO: &str =
     "co\n\n\n  2  1  0  0  0  0  0  0  0  0999 V2000\n    0.0000    0.0000    0.0000 C   0  0\n    0.0000    0.0000    0.0000 O   0  0\n  1  2  1  0\nM  END\n";
 
+const CARBON: &str =
+    "c\n\n\n  1  0  0  0  0  0  0  0  0  0999 V2000\n    0.0000    0.0000    0.0000 C   0  0\nM  END\n$$$$\n";
+
+const BOND_TYPE_FIVE: &str =
+    "\n\n\n  2  1  0  0  0  0  0  0  0  0999 V2000\n    0.0000    0.0000    0.0000 C   0  0\n    0.0000    0.0000    0.0000 C   0  0\n  1  2  5  0\nM  END\n$$$$\n";
+
 fn file(alloc: Global, name: &str, text: &[&str]) -> Result<NamedBytes, Fail>
     ensures { IfOk result (λ f. f.name ≡ name.now) }
 {
@@ -37,6 +43,8 @@ fn shelf(alloc: Global, failing: Vec<u64>) -> Result<MemShelf, Fail> {
     files.push(file(alloc, "co.mol", &[CO])?)?;
     files.push(file(alloc, "empty.sdf", &[])?)?;
     files.push(file(alloc, "blank.sdf", &["\n\n"])?)?;
+    files.push(file(alloc, "mixed.sdf", &[BOND_TYPE_FIVE, CARBON])?)?;
+    files.push(file(alloc, "c.mol", &[CARBON])?)?;
     Ok(MemShelf::new(files, failing))
 }
 
@@ -85,11 +93,12 @@ fn each_command_line_has_its_status_and_text(rt: HostRuntime) -> Result<(), Fail
             "hit 1 2,3 ethanol\nhit 2 1,2 ether\nhits 2\n",
         ),
         command(&["find", "empty.sdf", "co.mol"], 0, "hits 0\n"),
-        command(&["find", "co.mol", "co.mol"], 9, "stop 9 notyet co.mol\n"),
+        command(&["find", "co.mol", "co.mol"], 0, "hit 1 1,2 co\nhits 1\n"),
+        command(&["find", "blank.sdf", "co.mol"], 0, "hits 0\n"),
         command(
-            &["find", "blank.sdf", "co.mol"],
-            9,
-            "stop 9 notyet blank.sdf\n",
+            &["find", "mixed.sdf", "c.mol"],
+            0,
+            "refused 1 7 9 BondType\nhit 1 1 c\nhits 1\n",
         ),
         command(
             &["find", "none.sdf", "blank.sdf"],
@@ -106,6 +115,20 @@ fn each_command_line_has_its_status_and_text(rt: HostRuntime) -> Result<(), Fail
             7,
             "stop 7 absent none.mol\n",
         ),
+        command(
+            &["check", "ethanol.sdf"],
+            0,
+            "ok 1 3 2 ethanol\nrecords 1 ok 1 refused 0\n",
+        ),
+        command(
+            &["check", "mixed.sdf"],
+            0,
+            "refused 1 7 9 BondType\nok 2 1 0 c\nrecords 2 ok 1 refused 1\n",
+        ),
+        command(&["check", "empty.sdf"], 0, "records 0 ok 0 refused 0\n"),
+        command(&["check", "none.sdf"], 7, "stop 7 absent none.sdf\n"),
+        command(&["check", "-none.sdf"], 2, "stop 2 usage\n"),
+        command(&["check"], 2, "stop 2 usage\n"),
         command(&["find", "a.sdf"], 2, "stop 2 usage\n"),
         command(&["find", "a.sdf", "-co"], 2, "stop 2 usage\n"),
         command(&["find", "", "co.mol"], 2, "stop 2 usage\n"),

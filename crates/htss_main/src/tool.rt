@@ -1,18 +1,19 @@
 // The top call without a runtime.
 ghost use Rattle.std.specs.Prelude.{◌≡◌, ℕ, ◌≤◌, List, map, length, Some, IfOk, IfErr, OnOk, OnErr, string_bytes};
 ghost use Rattle.htss_defs.specs.QueryGraph.{QueryGraph, AsksNoTopology};
-ghost use Rattle.outside.specs.Files.{WasRead, file_limit};
-ghost use Rattle.htss_main.specs.Tasks.{Task, find_in, task_of};
+ghost use Rattle.htss_main.specs.Tasks.{check_of, find_in, task_of};
 ghost use Rattle.htss_main.specs.Outcomes.{done, stop_outcome};
-ghost use Rattle.htss_main.specs.FindText.{IsFindText, QueryWasRead, RecordsWereRead};
-ghost use Rattle.htss_main.specs.Ends.{ComesToRead, Ends, IsWritten, MayComeOut, ShelfGoesOn, seen, seen_out};
+ghost use Rattle.htss_main.specs.FindText.{IsCheckText, IsFindText, QueryWasRead};
+ghost use Rattle.htss_main.specs.Ends.{Ends, IsWritten, MayComeOut, ShelfGoesOn, seen, seen_out};
 
-use crate::hits::hits_text;
-use crate::stop::{Stop, status, write_stop};
+use crate::check_taker::CheckTaker;
+use crate::find_taker::FindTaker;
+use crate::list::read_list;
+use crate::stop::{Stop, read_stop, status, write_stop};
 use crate::words::{Command, read_words};
-use ctfile::{NamedMol, NotYet, plain_query, read_plain};
+use ctfile::{NotYet, plain_query};
 use htss_defs::{OutOfMemory, Query};
-use outside::{Failed, ReadStop, Shelf, Sink, read_whole, write_whole};
+use outside::{Failed, Shelf, Sink, read_whole, write_whole};
 use std::alloc::Global;
 
 /// Does what the words after the program's name say, and answers the status:
@@ -72,9 +73,11 @@ fn answer<'a, F: Shelf>(
     match read_words(words) {
         None => Err(Stop::Usage),
         Some(Command::Find { sdf, query }) => find(alloc, sdf, query, shelf),
+        Some(Command::Check { sdf }) => check(alloc, sdf, shelf),
     }
 }
 
+// The text of `find`.
 fn find<'a, F: Shelf>(
     alloc: Global,
     sdf: &'a str,
@@ -90,13 +93,32 @@ fn find<'a, F: Shelf>(
         (seen F.told F.absent F.faults shelf.old) (seen F.told F.absent F.faults shelf.new) }
 {
     let asked = read_query(alloc, query, shelf)?;
-    let records = read_records(alloc, sdf, shelf)?;
-    match hits_text(alloc, &asked, &records) {
+    let mut taker = FindTaker::new(alloc, &asked);
+    read_list(alloc, sdf, shelf, &mut taker)?;
+    match taker.text() {
         Ok(text) => Ok(text),
         Err(OutOfMemory) => Err(Stop::Memory),
     }
 }
 
+// The text of `check`.
+fn check<'a, F: Shelf>(alloc: Global, sdf: &'a str, shelf: &mut F) -> Result<Vec<u8>, Stop<'a>>
+    ensures text { IfOk result (λ text. IsCheckText (F.told shelf.old) sdf.now text.items) }
+    ensures stop { IfErr result (λ stop. MayComeOut (Some (check_of sdf.now))
+        (seen F.told F.absent F.faults shelf.old) (seen F.told F.absent F.faults shelf.new)
+        (stop_outcome stop)) }
+    ensures goes_on { ShelfGoesOn
+        (seen F.told F.absent F.faults shelf.old) (seen F.told F.absent F.faults shelf.new) }
+{
+    let mut taker = CheckTaker::new(alloc);
+    read_list(alloc, sdf, shelf, &mut taker)?;
+    match taker.text() {
+        Ok(text) => Ok(text),
+        Err(OutOfMemory) => Err(Stop::Memory),
+    }
+}
+
+// The query of the file with this name.
 fn read_query<'a, F: Shelf>(alloc: Global, name: &'a str, shelf: &mut F) -> Result<Query, Stop<'a>>
     ensures read { IfOk result (λ asked. QueryWasRead (F.told shelf.old) name.now asked) }
     ensures topology { IfOk result (λ asked. AsksNoTopology asked) }
@@ -106,51 +128,13 @@ fn read_query<'a, F: Shelf>(alloc: Global, name: &'a str, shelf: &mut F) -> Resu
     ensures goes_on { ShelfGoesOn
         (seen F.told F.absent F.faults shelf.old) (seen F.told F.absent F.faults shelf.new) }
 {
-    let bytes = read_file(alloc, name, shelf)?;
+    let bytes = match read_whole(alloc, shelf, name) {
+        Ok(bytes) => bytes,
+        Err(stop) => return Err(read_stop(stop, name)),
+    };
     match plain_query(alloc, &bytes) {
         Ok(Ok(query)) => Ok(query),
         Ok(Err(NotYet)) => Err(Stop::NotPlain(name)),
         Err(OutOfMemory) => Err(Stop::Memory),
-    }
-}
-
-fn read_records<'a, F: Shelf>(
-    alloc: Global,
-    name: &'a str,
-    shelf: &mut F,
-) -> Result<Vec<NamedMol>, Stop<'a>>
-    ensures read { IfOk result (λ records.
-        RecordsWereRead (F.told shelf.old) name.now records.items) }
-    ensures few { IfOk result (λ records. length records.items ≤ file_limit) }
-    ensures stop { IfErr result (λ stop. (query : List ℕ) (asked : QueryGraph)
-        → QueryWasRead (F.told shelf.old) query asked → MayComeOut (Some (find_in name.now query))
-        (seen F.told F.absent F.faults shelf.old) (seen F.told F.absent F.faults shelf.new)
-        (stop_outcome stop)) }
-    ensures goes_on { ShelfGoesOn
-        (seen F.told F.absent F.faults shelf.old) (seen F.told F.absent F.faults shelf.new) }
-{
-    let bytes = read_file(alloc, name, shelf)?;
-    match read_plain(alloc, &bytes) {
-        Ok(Ok(records)) => Ok(records),
-        Ok(Err(NotYet)) => Err(Stop::NotPlain(name)),
-        Err(OutOfMemory) => Err(Stop::Memory),
-    }
-}
-
-fn read_file<'a, F: Shelf>(alloc: Global, name: &'a str, shelf: &mut F) -> Result<Vec<u8>, Stop<'a>>
-    ensures read { IfOk result (λ bytes. WasRead (F.told shelf.old) name.now bytes.items) }
-    ensures stop { IfErr result (λ stop. (task : Task) → ComesToRead (F.told shelf.old) task name.now
-        → MayComeOut (Some task)
-        (seen F.told F.absent F.faults shelf.old) (seen F.told F.absent F.faults shelf.new)
-        (stop_outcome stop)) }
-    ensures goes_on { ShelfGoesOn
-        (seen F.told F.absent F.faults shelf.old) (seen F.told F.absent F.faults shelf.new) }
-{
-    match read_whole(alloc, shelf, name) {
-        Ok(bytes) => Ok(bytes),
-        Err(ReadStop::Absent) => Err(Stop::Absent(name)),
-        Err(ReadStop::Failed) => Err(Stop::Failed(name)),
-        Err(ReadStop::TooLarge) => Err(Stop::TooLarge(name)),
-        Err(ReadStop::OutOfMemory) => Err(Stop::Memory),
     }
 }

@@ -3,18 +3,11 @@ use Rattle.std.proofs.Common.{◌≡◌, ℕ, ◌+◌, ◌<◌, List, [], ◌++�
 use Rattle.std.specs.Prelude.{Option, None, Some, IfSome, IsSomeAnd, MatchOption}
 use Rattle.std.proofs.lemmas.List.{length-take, length-append, take-append-drop, append_assoc, drop-drop}
 use Rattle.std.specs.Io.KnownBytes.{append_known}
-use Rattle.outside.specs.Files.{File, bytes_of, Gives, file_limit, IsLarge}
+use Rattle.outside.specs.Files.{File, bytes_of, Gives, file_limit, HasFront, IsFront, IsLarge, WasRead}
 
--- the bytes read so far are the first of the file
-pub record IsFront (bytes front : List ℕ) : Type 0 where
-  pub parts : front ++ drop (length front) bytes ≡ bytes
-
-abbrev pub IsFrontOfFile : Option (List File) → List ℕ → List ℕ → Type 0
-IsFrontOfFile told name front = IfSome told (λ files. MatchOption (bytes_of files name) (front ≡ []) (λ bytes. IsFront bytes front))
-
-pub IsFrontOfFile-nil : (told : Option (List File)) (name front : List ℕ) → front ≡ [] → IsFrontOfFile told name front
-IsFrontOfFile-nil None name front nil = tt
-IsFrontOfFile-nil (Some files) name front nil = go (bytes_of files name)
+pub HasFront-nil : (told : Option (List File)) (name front : List ℕ) → front ≡ [] → HasFront told name front
+HasFront-nil None name front nil = tt
+HasFront-nil (Some files) name front nil = go (bytes_of files name)
   where
     go : (o : Option (List ℕ)) → MatchOption o (front ≡ []) (λ bytes. IsFront bytes front)
     go None = nil
@@ -34,23 +27,23 @@ IsFront-more bytes front into n whole gives =
           ∙ whole.parts;
     }
 
-pub IsFrontOfFile-more : (told now : Option (List File)) (name front into more : List ℕ) (offset n : ℕ) → now ≡ told → offset ≡ length front → IsFrontOfFile told name front
-    → IfSome now (λ files. IsSomeAnd (bytes_of files name) (λ bytes. Gives bytes offset into n)) → more ≡ front ++ take n into → IsFrontOfFile told name more
-IsFrontOfFile-more told now name front into more offset n same at-end whole gives grown =
+pub HasFront-more : (told now : Option (List File)) (name front into more : List ℕ) (offset n : ℕ) → now ≡ told → offset ≡ length front → HasFront told name front
+    → IfSome now (λ files. IsSomeAnd (bytes_of files name) (λ bytes. Gives bytes offset into n)) → more ≡ front ++ take n into → HasFront told name more
+HasFront-more told now name front into more offset n same at-end whole gives grown =
     let P : Option (List File) → ℕ → Type 0 = λ o k. IfSome o (λ files. IsSomeAnd (bytes_of files name) (λ bytes. Gives bytes k into n)) in
-    subst (λ (x : List ℕ). IsFrontOfFile told name x) (sym grown) (go told whole (subst (P told) at-end (subst (λ (o : Option (List File)). P o offset) same gives)))
+    subst (λ (x : List ℕ). HasFront told name x) (sym grown) (go told whole (subst (P told) at-end (subst (λ (o : Option (List File)). P o offset) same gives)))
   where
     at : (o : Option (List ℕ)) → MatchOption o (front ≡ []) (λ bytes. IsFront bytes front) → IsSomeAnd o (λ bytes. Gives bytes (length front) into n)
         → MatchOption o (front ++ take n into ≡ []) (λ bytes. IsFront bytes (front ++ take n into))
     at None w g = absurd g
     at (Some bytes) w g = IsFront-more bytes front into n w g
 
-    go : (o : Option (List File)) → IsFrontOfFile o name front → IfSome o (λ files. IsSomeAnd (bytes_of files name) (λ bytes. Gives bytes (length front) into n)) → IsFrontOfFile o name (front ++ take n into)
+    go : (o : Option (List File)) → HasFront o name front → IfSome o (λ files. IsSomeAnd (bytes_of files name) (λ bytes. Gives bytes (length front) into n)) → HasFront o name (front ++ take n into)
     go None w g = tt
     go (Some files) w g = at (bytes_of files name) w g
 
 -- a front that is longer than a file may be shows that the file is too large
-pub IsLarge-front : (told : Option (List File)) (name front : List ℕ) → IsFrontOfFile told name front → file_limit < length front → IsLarge told name
+pub IsLarge-front : (told : Option (List File)) (name front : List ℕ) → HasFront told name front → file_limit < length front → IsLarge told name
 IsLarge-front None name front whole long = record { bytes = front; may = tt; more = long }
 IsLarge-front (Some files) name front whole long = go (bytes_of files name) refl whole
   where

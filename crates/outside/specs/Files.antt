@@ -1,5 +1,5 @@
 -- Files by name, and what a read gives of them.
-use Rattle.std.specs.Prelude.{◌≡◌, ◌⊎◌, ℕ, ◌<◌, ◌≤◌, List, [], ◌∷◌, length, take, drop, if◌then◌else◌, Option, None, Some, Result, IfSome, IfOk, IsSomeAnd}
+use Rattle.std.specs.Prelude.{◌≡◌, ◌⊎◌, ℕ, ◌<◌, ◌≤◌, List, [], ◌∷◌, length, take, drop, ◌++◌, if◌then◌else◌, Option, None, Some, Result, IfSome, IfOk, IsSomeAnd, MatchOption}
 use Rattle.std.specs.Str.{bytes_eq}
 
 pub record File : Type 0 where
@@ -43,3 +43,11 @@ pub record IsLarge (told : Option (List File)) (name : List ℕ) : Type 0 where
   pub bytes : List ℕ
   pub may : MayRead told name bytes
   pub more : file_limit < length bytes
+
+-- these are the first bytes of the file
+pub record IsFront (bytes front : List ℕ) : Type 0 where
+  pub parts : front ++ drop (length front) bytes ≡ bytes
+
+-- a reading of the file from its front may have given these bytes so far
+abbrev pub HasFront : Option (List File) → List ℕ → List ℕ → Type 0
+HasFront told name front = IfSome told (λ files. MatchOption (bytes_of files name) (front ≡ []) (λ bytes. IsFront bytes front))

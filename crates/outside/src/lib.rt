@@ -9,6 +9,8 @@ mod out_sink;
 mod reads;
 mod shelf;
 mod sink;
+mod sure_shelf;
+mod sure_sink;
 #[cfg(test)]
 mod tests;
 mod whole;
@@ -20,4 +22,6 @@ pub use named_bytes::NamedBytes;
 pub use out_sink::OutSink;
 pub use shelf::{Shelf, ShelfError};
 pub use sink::{Failed, Sink};
-pub use whole::{ReadStop, read_whole, write_whole};
+pub use sure_shelf::SureShelf;
+pub use sure_sink::SureSink;
+pub use whole::{PIECE_SIZE, ReadStop, read_piece, read_whole, write_whole};

@@ -1,8 +1,8 @@
 ghost use Rattle.std.specs.Prelude.{◌≡◌, IfOk};
 
 use crate::{
-    DirShelf, Failed, MemShelf, MemSink, NamedBytes, ReadStop, Shelf, ShelfError, Sink, read_whole,
-    write_whole,
+    DirShelf, Failed, MemShelf, MemSink, NamedBytes, ReadStop, Shelf, ShelfError, Sink, SureShelf,
+    SureSink, read_piece, read_whole, write_whole,
 };
 use htss_defs::{Bytes, Text};
 use std::alloc::{AllocError, Global};
@@ -138,5 +138,31 @@ fn reads_real_files(rt: HostRuntime) -> Result<(), Fail> {
         shelf.read_at("hello.txt", 3, &mut into),
         Err(ShelfError::Absent)
     );
+    Ok(())
+}
+
+#[test]
+fn reads_piece_by_piece(rt: HostRuntime) -> Result<(), Fail> {
+    let alloc = rt.alloc();
+    let hello = file(alloc, "hello", Vec::from_slice(alloc, b"hello".as_slice())?)?;
+    let mut shelf = SureShelf::new(vec![in alloc; hello]?);
+    let mut piece = [0; 3];
+    assert_eq!(rt; read_piece(&mut shelf, "hello", 0, &mut piece), Ok(3));
+    assert_eq!(rt; piece.as_slice(), b"hel".as_slice());
+    assert_eq!(rt; read_piece(&mut shelf, "hello", 3, &mut piece), Ok(2));
+    assert_eq!(rt; piece.as_slice(), b"lol".as_slice());
+    assert_eq!(rt; read_piece(&mut shelf, "hello", 5, &mut piece), Ok(0));
+    assert_eq!(rt;
+        read_piece(&mut shelf, "other", 0, &mut piece),
+        Err(ReadStop::Absent)
+    );
+    Ok(())
+}
+
+#[test]
+fn a_sure_sink_takes_all(rt: HostRuntime) -> Result<(), Fail> {
+    let mut sink = SureSink::new();
+    assert_eq!(rt; sink.write(b"hello".as_slice()), Ok(5));
+    assert_eq!(rt; sink.write(b"".as_slice()), Ok(0));
     Ok(())
 }

@@ -7,11 +7,15 @@ pub returns-then-not-add_new : goal.returns-then-not-add_new
 returns-then-not-add_new c = (
   λ t. absurd cc,
   λ pairs.
-      absurd (refused-pairs query_bond_ends c.args.bonds.now c.loop-bond.bond-index _ _ _ _ _ c.loop-bond.invariant.linked c.ends.ensures (search rules) c.add_new.ensures.apart (search rules) pairs),
+      absurd (refused-pairs query_bond_ends c.args.bonds.now c.loop-bond.bond-index _ _ _ _ _
+      c.loop-bond.invariant.linked c.ends.ensures (search rules) c.add_new.ensures.apart (search rules) pairs),
 )
 
 pub loop-bond-preserved : goal.loop-bond-preserved
 loop-bond-preserved c = record {
-  linked = linked-more _ c.args.bonds.now c.loop-bond.bond-index _ _ _ _ _ c.loop-bond.invariant.linked c.ends.ensures (search rules) (c.add_new.ensures.added (search rules));
-  apart = added-pairs query_bond_ends c.args.bonds.now c.loop-bond.bond-index _ _ _ _ _ c.loop-bond.invariant.linked c.ends.ensures (search rules) c.add_new.ensures.apart (search rules) c.loop-bond.invariant.apart;
+  linked = linked-more _ c.args.bonds.now c.loop-bond.bond-index _ _ _ _ _ c.loop-bond.invariant.linked
+      c.ends.ensures (search rules) (c.add_new.ensures.added (search rules));
+  apart = added-pairs query_bond_ends c.args.bonds.now c.loop-bond.bond-index _ _ _ _ _
+      c.loop-bond.invariant.linked c.ends.ensures (search rules) c.add_new.ensures.apart
+      (search rules) c.loop-bond.invariant.apart;
 }

@@ -1,6 +1,5 @@
 use Rattle.std.proofs.Common.{◌≡◌, ◌-◌, ◌+◌, ◌≤◌, length, vec_len}
-use Rattle.outside.specs.Files.{file_limit}
-use Rattle.outside.proofs.Reading.{IsFrontOfFile}
+use Rattle.outside.specs.Files.{HasFront, file_limit}
 use Rattle.outside.proofs.whole.read_whole.Given as goal
 
 abbrev pub invariant-loop-bytes : goal.invariant-loop-bytes
@@ -9,7 +8,7 @@ invariant-loop-bytes g l = record {
   told : g.F.Shelf.told l.shelf ≡ g.F.Shelf.told l.fn.shelf;
   absent : g.F.Shelf.absent l.fn.shelf ≤ g.F.Shelf.absent l.shelf;
   faults : g.F.Shelf.faults l.fn.shelf ≤ g.F.Shelf.faults l.shelf;
-  front : IsFrontOfFile (g.F.Shelf.told l.fn.shelf) l.name l.bytes.items;
+  front : HasFront (g.F.Shelf.told l.fn.shelf) l.name l.bytes.items;
 }
 
 abbrev pub decreases-loop-bytes : goal.decreases-loop-bytes

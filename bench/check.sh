@@ -1,0 +1,52 @@
+#!/usr/bin/env bash
+# Records and bytes per second of `check`, beside the readers of RDKit (unsanitized) and of Open Babel where these are
+# installed (Debian: python3-rdkit and openbabel), on made files without and with data items. Best of five runs each,
+# the same files in one run.
+# Usage: bench/check.sh [RECORDS]
+set -u
+here=$(cd "$(dirname "$0")" && pwd)
+records=${1:-20000}
+folder=$(mktemp -d)
+trap 'rm -rf "$folder"' EXIT
+sdf=$folder/made.sdf
+
+best() {
+  local least=
+  for _ in 1 2 3 4 5; do
+    local start end took
+    start=$(date +%s%N)
+    "$@" >/dev/null 2>&1 || return 1
+    end=$(date +%s%N)
+    took=$(((end - start) / 1000))
+    if [ -z "$least" ] || [ "$took" -lt "$least" ]; then least=$took; fi
+  done
+  echo "$least"
+}
+report() {
+  local name=$1 took=$2
+  printf '%-28s %9d us  %9d records/s  %6.1f MB/s\n' "$name" "$took" $((records * 1000000 / took)) \
+    "$(awk -v b="$(stat -c %s "$sdf")" -v t="$took" 'BEGIN { print b / t }')"
+}
+compare() {
+  "$here/../htss" check "$sdf" >"$folder/checked.txt" || exit 1
+  tail -n 1 "$folder/checked.txt"
+  report 'htss check' "$(best "$here/../crates/htss_main/out/htss_main" check "$sdf")"
+  report 'cat (reading alone)' "$(best cat "$sdf")"
+  if /usr/bin/python3 -c 'import rdkit' 2>/dev/null; then
+    /usr/bin/python3 "$here/rdkit_read.py" "$sdf"
+  else
+    echo 'RDKit: not installed'
+  fi
+  if command -v obabel >/dev/null; then
+    report 'Open Babel (no output)' "$(best obabel "$sdf" -onul)"
+  else
+    echo 'Open Babel: not installed'
+  fi
+}
+
+echo 'made records'
+python3 "$here/make_sdf.py" "$records" 7 >"$sdf"
+compare
+echo 'made records with data items'
+python3 "$here/make_sdf.py" "$records" 7 items >"$sdf"
+compare

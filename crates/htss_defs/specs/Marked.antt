@@ -1,0 +1,29 @@
+-- Marked molecules and queries: the flag of each bond says whether it is a ring bond.
+use Rattle.std.specs.Prelude.{◌≡◌, ◌↔◌, ℕ, Bool, false, Some, IsTrue, slice_get, slice_set, slice_index_or}
+use Rattle.htss_defs.specs.declared.mol.Bond.{Bond}
+use Rattle.htss_defs.specs.declared.query.QueryBond.{QueryBond}
+use Rattle.htss_defs.specs.Graph.{IsRingBond}
+use Rattle.htss_defs.specs.Molecule.{Molecule, molecule_graph}
+use Rattle.htss_defs.specs.QueryGraph.{QueryGraph, query_shape}
+
+-- the bond without its flag
+abbrev pub unmarked : Bond → Bond
+unmarked b = record b { ring = false }
+
+abbrev pub IsMarked : Molecule → Type 0
+IsMarked m =
+    (k : ℕ) (b : Bond) → slice_get m.bonds k ≡ Some b → (IsTrue b.ring ↔ IsRingBond (molecule_graph m) k)
+
+abbrev pub IsMarkedQuery : QueryGraph → Type 0
+IsMarkedQuery q =
+    (k : ℕ) (b : QueryBond) → slice_get q.bonds k ≡ Some b → (IsTrue b.ring ↔ IsRingBond (query_shape q) k)
+
+abbrev pub no_bond : Bond
+no_bond = record { first = 0; second = 0; kind = 0; ring = false }
+
+-- the molecule with this flag at bond k
+abbrev pub with_ring : Molecule → ℕ → Bool → Molecule
+with_ring m k ring = record {
+  atoms = m.atoms;
+  bonds = slice_set m.bonds k (record (slice_index_or m.bonds k no_bond) { ring = ring });
+}

@@ -1,0 +1,33 @@
+-- What is printed of the records of a file (this project's own).
+use Rattle.std.specs.Prelude.{ℕ, ◌+◌, List, [], ◌∷◌, ◌++◌, length}
+use Rattle.htss_defs.specs.declared.record.NamedMol.{NamedMol}
+use Rattle.mol_section.specs.SectionRecord.{Outcome, accepted, refused}
+use Rattle.hit_report.specs.RecordLines.{ok_line, refused_line, records_line}
+
+-- the records that are accepted, in order
+abbrev pub accepted_records : List Outcome → List NamedMol
+accepted_records [] = []
+accepted_records (accepted name mol ∷ outcomes) = record { name = name; mol = mol } ∷ accepted_records outcomes
+accepted_records (refused line code ∷ outcomes) = accepted_records outcomes
+
+-- how many are refused
+abbrev pub refused_count : List Outcome → ℕ
+refused_count [] = 0
+refused_count (accepted name mol ∷ outcomes) = refused_count outcomes
+refused_count (refused line code ∷ outcomes) = refused_count outcomes + 1
+
+-- the lines of the refused records among those from this place on
+abbrev pub refused_lines : ℕ → List Outcome → List ℕ
+refused_lines place [] = []
+refused_lines place (accepted name mol ∷ outcomes) = refused_lines (place + 1) outcomes
+refused_lines place (refused line code ∷ outcomes) = refused_line place line code ++ refused_lines (place + 1) outcomes
+
+-- a line for each record from this place on
+abbrev pub record_lines : ℕ → List Outcome → List ℕ
+record_lines place [] = []
+record_lines place (accepted name mol ∷ outcomes) = ok_line place (length mol.atoms) (length mol.bonds) name ++ record_lines (place + 1) outcomes
+record_lines place (refused line code ∷ outcomes) = refused_line place line code ++ record_lines (place + 1) outcomes
+
+-- the text of `check`
+abbrev pub check_text : List Outcome → List ℕ
+check_text outcomes = record_lines 1 outcomes ++ records_line (length outcomes) (length (accepted_records outcomes)) (refused_count outcomes)

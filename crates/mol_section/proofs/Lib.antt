@@ -1,0 +1,13 @@
+pub mod Examples
+pub mod RawLines
+pub mod Texts
+pub mod SymbolRows
+pub mod Taken
+pub mod Entries
+pub mod AtomSets
+pub mod Passing
+pub mod Made
+pub mod BlockLines
+pub mod Endings
+pub mod HeaderNames
+pub mod Outcomes

@@ -1,0 +1,10 @@
+use Rattle.std.proofs.Common.{◌+◌, ◌≤◌, length}
+use Rattle.mol_section.specs.Lines.{lines_of}
+use Rattle.mol_section.specs.Walk.{AtLists}
+use Rattle.mol_section.proofs.blocks.skip_lists.Given as goal
+
+abbrev pub invariant-loop : goal.invariant-loop
+invariant-loop l = record {
+  at : AtLists (lines_of l.bytes) l.sizes l.passed l.counter (lines_of l.rest) l.atoms.items l.bonds.items;
+  shorter : l.passed + length l.rest ≤ length l.bytes;
+}

@@ -1,0 +1,10 @@
+pub mod Lines
+pub mod Fields
+pub mod SectionLines
+pub mod SectionRecord
+pub mod Walk
+pub mod AtomLines
+pub mod BondLines
+pub mod PropertyLines
+pub mod Stops
+pub mod Names

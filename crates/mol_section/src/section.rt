@@ -1,0 +1,119 @@
+// The record of a section.
+ghost use Rattle.std.specs.Prelude.{◌≡◌, ℕ, ◌+◌, ◌^◌, ◌<◌, ◌≤◌, length, take, slice_get};
+ghost use Rattle.std.specs.Prelude.{Some, IsSome, IfOk, IfErr};
+ghost use Rattle.mol_section.specs.Lines.{lines_of};
+ghost use Rattle.mol_section.specs.SectionRecord.{IsOutcome, outcome_of, name_of};
+ghost use Rattle.mol_section.specs.Walk.{IsRead};
+ghost use Rattle.mol_section.specs.Stops.{IsStopOf};
+ghost use Rattle.mol_section.specs.Names.{visible};
+
+use crate::SectionOutcome;
+use crate::blocks::{
+    Draft, Stop, read_atoms, read_bonds, read_counts, read_properties, skip_lists,
+};
+use crate::fields::trim;
+use crate::lines::next_line;
+use arrayvec::ArrayVec;
+use htss_defs::{Adjacency, Mol, Name, OutOfMemory};
+use std::alloc::Global;
+
+/// The outcome of the section with these bytes, whose first line has this number: its record, or
+/// the first line that is refused, by the number of that line, with the code of the refusal.
+pub fn read_section(alloc: Global, bytes: &[u8], first: u64) -> Result<SectionOutcome, OutOfMemory>
+    requires { first + length bytes.now < 2 ^ 64 }
+    ensures { IfOk result (λ outcome. IsOutcome first (lines_of bytes.now) (outcome_of outcome)) }
+{
+    let mut graph = Adjacency::new();
+    read_section_with(alloc, bytes, first, &mut graph)
+}
+
+/// The same, with a graph that is used again and again: what it was before makes no difference.
+pub fn read_section_with(
+    alloc: Global,
+    bytes: &[u8],
+    first: u64,
+    graph: &mut Adjacency,
+) -> Result<SectionOutcome, OutOfMemory>
+    requires { first + length bytes.now < 2 ^ 64 }
+    ensures { IfOk result (λ outcome. IsOutcome first (lines_of bytes.now) (outcome_of outcome)) }
+{
+    match read_draft(alloc, bytes, graph) {
+        Err(Stop::Memory) => Err(OutOfMemory),
+        Err(Stop::Refused { line, code }) => Ok(SectionOutcome::Refused {
+            line: first + line,
+            code,
+        }),
+        Ok(draft) => Ok(SectionOutcome::Accepted {
+            name: name_of(first_line(bytes)),
+            mol: Mol::of_valid(draft.atoms, draft.bonds),
+        }),
+    }
+}
+
+// Reads all blocks up to the end mark.
+fn read_draft<'a>(alloc: Global, bytes: &'a [u8], graph: &mut Adjacency) -> Result<Draft<'a>, Stop>
+    ensures read { IfOk result (λ d.
+        IsRead (lines_of bytes.now) d.sizes d.atoms.items d.bonds.items) }
+    ensures some { IfOk result (λ d. 1 ≤ d.sizes.atoms) }
+    ensures few { IfOk result (λ d. d.sizes.atoms ≤ 999) }
+    ensures few_bonds { IfOk result (λ d. d.sizes.bonds ≤ 999) }
+    ensures stop { IfErr result (λ stop. IsStopOf (lines_of bytes.now) stop) }
+{
+    let draft = match read_counts(alloc, bytes) {
+        Ok(draft) => draft,
+        Err(stop) => return Err(stop),
+    };
+    let draft = match read_atoms(bytes, draft) {
+        Ok(draft) => draft,
+        Err(stop) => return Err(stop),
+    };
+    let draft = match read_bonds(bytes, draft, graph) {
+        Ok(draft) => draft,
+        Err(stop) => return Err(stop),
+    };
+    let draft = match skip_lists(bytes, draft) {
+        Ok(draft) => draft,
+        Err(stop) => return Err(stop),
+    };
+    read_properties(bytes, draft)
+}
+
+fn first_line(bytes: &[u8]) -> &[u8]
+    requires { IsSome (slice_get (lines_of bytes.now) 0) }
+    ensures { slice_get (lines_of bytes.now) 0 ≡ Some result.now }
+{
+    match next_line(bytes) {
+        None => &[],
+        Some((line, _)) => line,
+    }
+}
+
+// The name that a header line gives.
+fn name_of(line: &[u8]) -> Name
+    ensures { result ≡ name_of line.now }
+{
+    let text = visible(line);
+    Name::new(trim(text.as_slice())).unwrap()
+}
+
+// The first 80 bytes, those that are not printable as `?`.
+fn visible(line: &[u8]) -> ArrayVec<u8, 80>
+    ensures { result.items ≡ visible line.now }
+{
+    let mut text = ArrayVec::new();
+    for byte in front(line) {
+        text.push(if 32 <= *byte && *byte <= 126 {
+            *byte
+        } else {
+            b'?'
+        });
+    }
+    text
+}
+
+fn front(line: &[u8]) -> &[u8]
+    ensures front { result.now ≡ take 80 line.now }
+    ensures short { length result.now ≤ 80 }
+{
+    if line.len() < 80 { line } else { &line[..80] }
+}

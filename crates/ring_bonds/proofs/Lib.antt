@@ -1,0 +1,6 @@
+pub mod Walks
+pub mod Climbs
+pub mod Rings
+pub mod Visits
+pub mod Tops
+pub mod Molecules

@@ -1,0 +1,3 @@
+pub mod Forest
+pub mod Visits
+pub mod Marking

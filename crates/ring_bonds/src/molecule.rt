@@ -1,0 +1,20 @@
+ghost use Rattle.std.specs.Prelude.{◌≡◌, map};
+ghost use Rattle.htss_defs.specs.Marked.{IsMarked, unmarked};
+
+use crate::marking::ring_flags;
+use htss_defs::{Adjacency, Mol};
+
+/// Sets the flag of each bond to whether it is a ring bond. It takes no memory, and its time is
+/// nearly linear in atoms and bonds.
+pub fn mark_rings(mol: &mut Mol)
+    ensures marked { IsMarked mol.new }
+    ensures atoms { mol.new.atoms ≡ mol.old.atoms }
+    ensures bonds { map unmarked mol.new.bonds ≡ map unmarked mol.old.bonds }
+{
+    let mut graph = Adjacency::new();
+    mol.link(&mut graph);
+    let flags = ring_flags(&graph);
+    for bond in 0..mol.bonds().len() {
+        mol.set_ring(bond, flags[bond]);
+    }
+}
