@@ -1,5 +1,5 @@
 -- The text of records and of refusals (this project's own).
-use Rattle.std.specs.Prelude.{ℕ, ◌+◌, List, [], ◌∷◌, ◌++◌, decimal, ◌==◌, if◌then◌else◌}
+use Rattle.std.specs.Prelude.{ℕ, List, [], ◌∷◌, ◌++◌, decimal, ◌==◌, if◌then◌else◌}
 use lib.Chars.{codes}
 use Rattle.hit_report.specs.HitLines.{name_text}
 

@@ -6,7 +6,7 @@ ghost use Rattle.hit_report.specs.Appends.{KeepsFront};
 use htss_defs::OutOfMemory;
 use itoa::Buffer;
 
-// Cuts the text to the length before, where it was not appended to whole.
+/// Cuts the text to the length before, where it was not appended to whole.
 pub fn kept_or_cut(
     text: &mut Vec<u8>,
     before: usize,
@@ -22,6 +22,7 @@ pub fn kept_or_cut(
     appended
 }
 
+/// Appends bytes. Where memory runs out, a front of them may stand.
 pub fn append_bytes(text: &mut Vec<u8>, bytes: &[u8]) -> Result<(), OutOfMemory>
     ensures ok { OnOk result (text.new.items ≡ text.old.items ++ bytes.now) }
     ensures front { KeepsFront text.old.items text.new.items }
@@ -30,6 +31,7 @@ pub fn append_bytes(text: &mut Vec<u8>, bytes: &[u8]) -> Result<(), OutOfMemory>
     Ok(())
 }
 
+/// Appends a number in decimal digits. Where memory runs out, a front of them may stand.
 pub fn append_number(text: &mut Vec<u8>, number: u64) -> Result<(), OutOfMemory>
     ensures ok { OnOk result (text.new.items ≡ text.old.items ++ decimal number) }
     ensures front { KeepsFront text.old.items text.new.items }
@@ -38,6 +40,7 @@ pub fn append_number(text: &mut Vec<u8>, number: u64) -> Result<(), OutOfMemory>
     append_bytes(text, digits.format(number).as_bytes())
 }
 
+/// Appends a space and the name, or nothing where the name is empty. Where memory runs out, a front may stand.
 #[tactic(auto, using(crate::proofs::Fronts::front_trans))]
 pub fn append_name(text: &mut Vec<u8>, name: &[u8]) -> Result<(), OutOfMemory>
     ensures ok { OnOk result (text.new.items ≡ text.old.items ++ name_text name.now) }

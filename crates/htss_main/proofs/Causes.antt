@@ -1,5 +1,5 @@
 -- A cause between two moments is one from an earlier moment on.
-use Rattle.std.proofs.Common.{◌≡◌, ℕ, ◌≤◌, List, subst, sym, arith}
+use Rattle.std.proofs.Common.{ℕ, ◌≤◌, List, subst, arith}
 use Rattle.std.specs.Prelude.{Option, Some, None}
 use Rattle.outside.specs.Files.{File, IsLarge}
 use Rattle.outside.specs.Causes.{Rose, IsAbsent}

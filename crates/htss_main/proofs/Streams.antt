@@ -1,10 +1,10 @@
 -- The records of a stream, handed on while it is read.
-use Rattle.std.proofs.Common.{◌≡◌, ◌≢◌, ℕ, ◌+◌, ◌<◌, ◌≤◌, true, false, List, [], ◌∷◌, ◌++◌, length, take, refl, inl, inr, sym, ap, subst, ◌∙◌, append_assoc, arith}
-use Rattle.std.specs.Prelude.{Option, ◌⊎◌, Bool}
-use Rattle.std.proofs.lemmas.List.{length-append, append-nil}
+use Rattle.std.proofs.Common.{◌≡◌, ℕ, ◌<◌, ◌≤◌, true, List, [], ◌∷◌, ◌++◌, length, inl, inr, ap, arith}
+use Rattle.std.specs.Prelude.{Option, Bool}
+use Rattle.std.proofs.lemmas.List.{length-append}
 use Rattle.mol_section.specs.Lines.{lines_of, raw_lines, ends_section}
 use Rattle.mol_section.specs.SectionRecord.{Outcome}
-use Rattle.ctfile.specs.Cut.{TakesSection, TakesLast, LineEnds, has_text}
+use Rattle.ctfile.specs.Cut.{LineEnds, has_text}
 use Rattle.ctfile.specs.Stream.{HasRead, ReaderState, TakesRecord}
 use Rattle.outside.specs.Files.{File, HasFront}
 

@@ -1,5 +1,5 @@
 -- What the commands keep of the records that they have taken.
-use Rattle.std.specs.Prelude.{◌≡◌, ℕ, ◌+◌, List, [], length}
+use Rattle.std.specs.Prelude.{◌≡◌, ℕ, List, length}
 use Rattle.std.specs.List.{flat_map}
 use Rattle.htss_defs.specs.declared.history.Hit.{Hit}
 use Rattle.htss_defs.specs.QueryGraph.{QueryGraph}

@@ -3,7 +3,7 @@ use Rattle.std.proofs.Common.{◌≡◌, ℕ, ◌+◌, ◌<◌, List, [], ◌++�
 use Rattle.std.specs.Prelude.{Option, None, Some, IfSome, IsSomeAnd, MatchOption}
 use Rattle.std.proofs.lemmas.List.{length-take, length-append, take-append-drop, append_assoc, drop-drop}
 use Rattle.std.specs.Io.KnownBytes.{append_known}
-use Rattle.outside.specs.Files.{File, bytes_of, Gives, file_limit, HasFront, IsFront, IsLarge, WasRead}
+use Rattle.outside.specs.Files.{File, bytes_of, Gives, file_limit, HasFront, IsFront, IsLarge}
 
 pub HasFront-nil : (told : Option (List File)) (name front : List ℕ) → front ≡ [] → HasFront told name front
 HasFront-nil None name front nil = tt

@@ -6,7 +6,7 @@ ghost use Rattle.outside.specs.Memory.{files_of};
 
 use crate::NamedBytes;
 
-// The bytes of the first file with this name.
+/// The bytes of the first file with this name.
 pub fn find<'a>(files: &'a [NamedBytes], name: &str) -> Option<&'a [u8]>
     ensures { option_copied result ≡ bytes_of (files_of files.now) name.now }
 {
@@ -18,7 +18,7 @@ pub fn find<'a>(files: &'a [NamedBytes], name: &str) -> Option<&'a [u8]>
     None
 }
 
-// Reads as many bytes from the offset on as there are and fit.
+/// Reads as many bytes from the offset on as there are and fit: how many.
 pub fn copy_from(bytes: &[u8], offset: u64, into: &mut [u8]) -> usize
     ensures count { result ≡ min (length into.new) (length bytes.now - offset) }
     ensures gives { Gives bytes.now offset into.new result }

@@ -1,4 +1,4 @@
-use Rattle.std.proofs.Common.{◌++◌, take, refl, sym, rules, arith}
+use Rattle.std.proofs.Common.{◌++◌, take, refl, sym, arith}
 use Rattle.std.proofs.lemmas.List.{length-append, length-take}
 use Rattle.outside.proofs.Reading.{HasFront-more, IsLarge-front}
 use Rattle.outside.proofs.whole.read_piece.Goals as goal

@@ -1,4 +1,4 @@
-use Rattle.std.proofs.Common.{length, ◌+◌, refl, ap, sym, ◌∙◌, arith}
+use Rattle.std.proofs.Common.{length, ◌+◌, refl, ap, sym, ◌∙◌}
 use Rattle.htss_main.proofs.Taken.{CheckHolds-accepted}
 use Rattle.htss_main.proofs.check_taker.CheckTakerTaker.accept.Goals as goal
 
