@@ -4,6 +4,7 @@
 # Usage: bench/find.sh [RECORDS]
 set -u
 here=$(cd "$(dirname "$0")" && pwd)
+. "$here/timing.sh"
 records=${1:-20000}
 folder=$(mktemp -d)
 trap 'rm -rf "$folder"' EXIT
@@ -17,24 +18,6 @@ python3 "$here/make_sdf.py" "$records" 7 >"$sdf"
 } >"$query"
 "$here/../htss" find "$sdf" "$query" >"$folder/hits.txt" || exit 1
 tail -n 1 "$folder/hits.txt"
-
-best() {
-  local least=
-  for _ in 1 2 3 4 5; do
-    local start end took
-    start=$(date +%s%N)
-    "$@" >/dev/null 2>&1 || return 1
-    end=$(date +%s%N)
-    took=$(((end - start) / 1000))
-    if [ -z "$least" ] || [ "$took" -lt "$least" ]; then least=$took; fi
-  done
-  echo "$least"
-}
-report() {
-  local name=$1 took=$2
-  printf '%-28s %9d us  %9d records/s  %6.1f MB/s\n' "$name" "$took" $((records * 1000000 / took)) \
-    "$(awk -v b="$(stat -c %s "$sdf")" -v t="$took" 'BEGIN { print b / t }')"
-}
 
 report 'htss find' "$(best "$here/../crates/htss_main/out/htss_main" find "$sdf" "$query")"
 report 'cat (reading alone)' "$(best cat "$sdf")"
