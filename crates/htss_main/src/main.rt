@@ -1,5 +1,5 @@
 //! `htss`: a compound registry that is searched by substructure. This program finds the records of an SDfile into which
-//! a query molecule embeds.
+//! a query molecule embeds, and checks the records of an SDfile.
 #![tactic(auto)]
 
 mod check_taker;

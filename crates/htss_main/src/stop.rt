@@ -20,7 +20,7 @@ pub enum Stop<'a> {
     Absent(&'a str),
     /// The file has more bytes than a file may have.
     TooLarge(&'a str),
-    /// The file is not of the plain form.
+    /// The query is not of the plain form.
     NotPlain(&'a str),
 }
 

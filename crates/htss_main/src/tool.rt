@@ -18,7 +18,7 @@ use std::alloc::Global;
 
 /// Does what the words after the program's name say, and answers the status:
 /// 0, or 2 where they are no command line, 4 where a read failed, 5 where a write failed, 6 where memory ran out,
-/// 7 where a file is absent, 8 where it is too large, 9 where it is not of the plain form.
+/// 7 where a file is absent, 8 where it is too large, 9 where the query is not of the plain form.
 pub fn htss_tool<F: Shelf, K: Sink>(
     alloc: Global,
     words: &[String],
