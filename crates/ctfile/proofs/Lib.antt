@@ -1,13 +1,5 @@
-pub mod Parts
-pub mod Numbers
-pub mod Symbols
-pub mod Texts
-pub mod Many
-pub mod Rows
-pub mod Law
-pub mod Loop
-pub mod Query
 pub mod LinesOf
 pub mod Looked
 pub mod Answered
+pub mod MarkedOnes
 pub mod OneList

@@ -14,6 +14,7 @@ use Rattle.htss_defs.specs.Molecule.{Molecule}
 use Rattle.ctfile.specs.RecordList.{AreSections, last_sections, AreOutcomes, IsRecordList}
 use Rattle.ctfile.specs.Cut.{NoneEnds}
 use Rattle.ctfile.proofs.Looked.{middle}
+use Rattle.ctfile.proofs.MarkedOnes.{one_molecule}
 
 -- ---- one list of sections
 
@@ -99,7 +100,9 @@ not_accepted lines name i code mol a (inl b) = not_both lines i code (a.passes i
 not_accepted lines name i code mol a (inr b) = b.none a.ends
 
 one_outcome : (first : ℕ) (lines : List (List ℕ)) (x y : Outcome) → IsOutcome first lines x → IsOutcome first lines y → x ≡ y
-one_outcome first lines (accepted name mol) (accepted other one) a b = cc (a.name_is, b.name_is, a.mol_is, b.mol_is)
+one_outcome first lines (accepted name mol) (accepted other one) a b =
+    let names : name ≡ other = a.name_is ∙ sym b.name_is in
+    ap (λ (x : List ℕ). accepted x mol) names ∙ ap (accepted other) (one_molecule mol one (a.mol_is ∙ sym b.mol_is) a.marked b.marked)
 one_outcome first lines (accepted name mol) (refused line code) a b = absurd (not_accepted lines name b.0 code mol a b.2)
 one_outcome first lines (refused line code) (accepted name mol) a b = absurd (not_accepted lines name a.0 code mol b a.2)
 one_outcome first lines (refused line code) (refused at other) a b =

@@ -7,13 +7,13 @@ ghost use Rattle.ctfile.specs.Stream.{HasRead, TakesRecord, NeedsMore, HasEnded,
 ghost use Rattle.ctfile.specs.Stream.{answer_of};
 
 use crate::cut::Pending;
-use htss_defs::{Mol, Name, OutOfMemory};
-use mol_section::{SectionOutcome, read_section};
+use htss_defs::{Adjacency, Mol, Name, OutOfMemory};
+use mol_section::{SectionOutcome, read_section_with};
 use std::alloc::Global;
 use std::marker::Model;
 
-/// What a reader answers: the next record of the stream, accepted or refused, with its place, counted from 1; that the next record
-/// depends on bytes that have not come; or that the stream has no record any more.
+/// What a reader answers: the next record of the stream, accepted, its ring bonds marked, or refused, with its place, counted
+/// from 1; that the next record depends on bytes that have not come; or that the stream has no record any more.
 #[derive(Debug, Drop)]
 pub enum Next {
     Accepted { place: u32, name: Name, mol: Mol },
@@ -23,10 +23,12 @@ pub enum Next {
 }
 
 /// A reader of an SDfile that comes in pieces. Contracts see what is pending, and how much was answered.
-#[derive(Debug, Drop)]
+#[derive(Drop)]
 pub struct RecordReader {
     alloc: Global,
     pending: Pending,
+    // what bonds are linked into, one record after the other
+    graph: Adjacency,
     place: u32,
     line: u64,
     fed: u32,
@@ -58,6 +60,7 @@ impl RecordReader {
         Ok(RecordReader {
             alloc,
             pending: Pending::new(alloc),
+            graph: Adjacency::new(),
             place: 0,
             line: 0,
             fed: 0,
@@ -115,7 +118,7 @@ impl RecordReader {
             });
         };
         let section = &self.pending.bytes()[..taken.section];
-        let outcome = read_section(self.alloc, section, self.line + 1)?;
+        let outcome = read_section_with(self.alloc, section, self.line + 1, &mut self.graph)?;
         self.pending.pass(taken.bytes);
         self.place += 1;
         self.line += taken.lines;

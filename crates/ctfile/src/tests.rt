@@ -1,122 +1,171 @@
-use crate::{NotYet, plain_query};
-use htss_defs::{AtomTest, QueryAtom, QueryBond};
+ghost use Rattle.std.specs.Prelude.{◌≡◌, ◌<◌, ◌≤◌, ◌^◌, length};
+
+use crate::{Next, RecordReader, read_molfile};
+use htss_defs::Mol;
 use std::alloc::Global;
 use std::test::Fail;
-
-const ETHANOL: &str =
-    "ethanol\n\n\n  3  2  0  0  0  0  0  0  0  0999 V2000\n    0.0000    0.0000    0.0000 C   0  0\n    1.5000    0.0000    0.0000 C   0  0\n    2.2500    1.2990    0.0000 O   0  0\n  1  2  1  0\n  2  3  1  0\nM  END\n$$$$\n";
-
-const ETHER: &str =
-    "ether\n  drawn by hand\nC-O-C\n  3  2  0  0  0  0  0  0  0  0999 V2000\n    0.0000    0.0000    0.0000 C   0  0\n    1.4000    0.0000    0.0000 O   0  0\n    2.8000    0.0000    0.0000 C   0  0\n  1  2  1  0\n  3  2  1  0\nM  END\n$$$$\n";
 
 const CARBON: &str =
     "c\n\n\n  1  0  0  0  0  0  0  0  0  0999 V2000\n    0.0000    0.0000    0.0000 C   0  0\nM  END\n$$$$\n";
 
-fn is_plain(alloc: Global, text: &str) -> Result<bool, Fail> {
-    Ok(plain_query(alloc, text.as_bytes())?.is_ok())
+// Four carbons, three of them in a ring.
+const TAILED_RING: &str =
+    "r\n\n\n  4  4  0  0  0  0  0  0  0  0999 V2000\n    0.0000    0.0000    0.0000 C   0  0\n    1.0000    0.0000    0.0000 C   0  0\n    0.5000    0.8660    0.0000 C   0  0\n    0.5000    1.8660    0.0000 C   0  0\n  1  2  1  0\n  2  3  1  0\n  1  3  1  0\n  3  4  1  0\nM  END\n$$$$\n";
+
+// Adds a line for each record that the reader answers now, and tells whether the stream is over.
+fn tell(alloc: Global, reader: &mut RecordReader, told: &mut Vec<u8>) -> Result<bool, Fail>
+    ensures fed { reader.new.fed ≡ reader.old.fed }
+    ensures finished { reader.new.finished ≡ reader.old.finished }
+{
+    loop {
+        let line = match reader.next_record()? {
+            Next::NeedMore => return Ok(false),
+            Next::End => return Ok(true),
+            Next::Refused { place, line, code } => {
+                format!(in alloc; "{place}: line {line}, code {code}")?
+            }
+            Next::Accepted { place, name, mol } => {
+                told.extend_from_slice(name.bytes())?;
+                let atoms = mol.atoms().len();
+                format!(in alloc; " {place}: atoms {atoms}")?
+            }
+        };
+        told.extend_from_slice(line.as_bytes())?;
+        told.push(b'\n')?;
+    }
+}
+
+// What is told of a stream that comes in two pieces.
+fn told_of(alloc: Global, text: &[u8], cut: usize) -> Result<Vec<u8>, Fail>
+    requires cut { cut ≤ length text.now }
+    requires small { length text.now < 2 ^ 32 }
+{
+    let mut told = Vec::new(alloc);
+    let mut reader = RecordReader::new(alloc)?;
+    let (front, rest) = text.split_at(cut);
+    reader.feed(front)?;
+    let early = tell(alloc, &mut reader, &mut told)?;
+    reader.feed(rest)?;
+    let soon = tell(alloc, &mut reader, &mut told)?;
+    reader.finish();
+    let over = tell(alloc, &mut reader, &mut told)?;
+    if early || soon || !over {
+        told.extend_from_slice(b"not over")?;
+    }
+    Ok(told)
+}
+
+// What is told of a stream that comes byte by byte.
+fn told_by_bytes(alloc: Global, text: &[u8]) -> Result<Vec<u8>, Fail>
+    requires { length text.now < 2 ^ 32 }
+{
+    let mut told = Vec::new(alloc);
+    let mut reader = RecordReader::new(alloc)?;
+    for i in 0..text.len() {
+        reader.feed(&text[i..i + 1])?;
+        tell(alloc, &mut reader, &mut told)?;
+    }
+    reader.finish();
+    tell(alloc, &mut reader, &mut told)?;
+    Ok(told)
 }
 
 #[test]
-fn tells_plain_sections(rt: HostRuntime) -> Result<(), Fail> {
+fn reads_streams_cut_anywhere(rt: HostRuntime) -> Result<(), Fail> {
+    let alloc = rt.alloc();
+    let open = CARBON.replacen(alloc, "$$$$\n", "", 1)?;
+    let with_cr = CARBON.replacen(alloc, "\n", "\r\n", 9)?;
     let cases = [
-        ("c", "c", true),
-        ("c", "", true),
-        ("c\n", "c a r b o n\n", true),
-        (" C   0", " Og  0", true),
-        (" C   0", " Br  0", true),
-        (" C   0", " D   0", false),
-        (" C   0", " c   0", false),
-        (" C   0", "  C  0", false),
-        (" C   0  0", " C   0  0 ", false),
-        ("\n", "\r\n", false),
-        ("c\n", "c \n", false),
-        ("c\n", " c\n", false),
-        ("c\n\n", "c\n\t\n", false),
-        ("c\n\n", "c\n$$$$\n", false),
-        ("  1  0  0", " 01  0  0", false),
-        ("  1  0  0", "001  0  0", false),
-        ("  1  0  0", "1    0  0", false),
-        ("  1  0  0", "  0  0  0", false),
-        ("  1  0  0", "  2  0  0", false),
-        ("V2000", "V3000", false),
-        ("M  END\n", "", false),
-        ("$$$$\n", "", true),
-        ("$$$$\n", "$$$$", false),
-        ("$$$$\n", "$$$$\n\n", false),
-        ("$$$$\n", "$$$$ \n", false),
+        (format!(in alloc; "")?, ""),
+        (format!(in alloc; "\n \n\r\n  ")?, ""),
+        (format!(in alloc; "{CARBON}")?, "c 1: atoms 1\n"),
+        (
+            format!(in alloc; "{CARBON}{CARBON}")?,
+            "c 1: atoms 1\nc 2: atoms 1\n",
+        ),
+        (
+            format!(in alloc; "{CARBON}{open}")?,
+            "c 1: atoms 1\nc 2: atoms 1\n",
+        ),
+        (
+            format!(in alloc; "{CARBON}{open}$$$$")?,
+            "c 1: atoms 1\nc 2: atoms 1\n",
+        ),
+        (
+            format!(in alloc; "{with_cr}{with_cr}")?,
+            "c 1: atoms 1\nc 2: atoms 1\n",
+        ),
+        (format!(in alloc; "{CARBON}\n  \r\n \n ")?, "c 1: atoms 1\n"),
+        (
+            format!(in alloc; "{CARBON}$$$$\n{CARBON}")?,
+            "c 1: atoms 1\n2: line 8, code 12\nc 3: atoms 1\n",
+        ),
+        (
+            format!(in alloc; "\n \n$$$$ x\n{CARBON}")?,
+            "1: line 3, code 12\nc 2: atoms 1\n",
+        ),
+        (
+            format!(in alloc; "{CARBON}\nx")?,
+            "c 1: atoms 1\n2: line 10, code 12\n",
+        ),
     ];
-    for (old, new, plain) in cases {
-        let text = CARBON.replacen(rt.alloc(), old, new, 1)?;
-        assert_eq!(rt; is_plain(rt.alloc(), text.as_str())?, plain, "{new}");
+    for (text, told) in cases {
+        let text = text.as_bytes();
+        assert!(rt; text.len() < 1000);
+        for cut in 0..text.len() + 1 {
+            let found = told_of(alloc, text, cut)?;
+            assert_eq!(rt; found.as_slice(), told.as_bytes(), "{cut}");
+        }
+        let found = told_by_bytes(alloc, text)?;
+        assert_eq!(rt; found.as_slice(), told.as_bytes());
     }
     Ok(())
 }
 
 #[test]
-fn tells_plain_bonds(rt: HostRuntime) -> Result<(), Fail> {
-    let cases = [
-        ("  1  2  1  0", "  1  2  3  0", true),
-        ("  1  2  1  0", "  1  2  4  0", false),
-        ("  1  2  1  0", "  1  2  0  0", false),
-        ("  1  2  1  0", "  1  2  1  1", false),
-        ("  1  2  1  0", "  1  2 01  0", false),
-        ("  1  2  1  0", "  1  1  1  0", false),
-        ("  2  3  1  0", "  2  4  1  0", false),
-        ("  2  3  1  0", "  2  1  1  0", false),
-    ];
-    for (old, new, plain) in cases {
-        let text = ETHANOL.replacen(rt.alloc(), old, new, 1)?;
-        assert_eq!(rt; is_plain(rt.alloc(), text.as_str())?, plain, "{new}");
+fn reads_molfiles(rt: HostRuntime) -> Result<(), Fail> {
+    let alloc = rt.alloc();
+    let open = CARBON.replacen(alloc, "$$$$\n", "", 1)?;
+    for text in [CARBON, open.as_str()] {
+        assert!(rt; text.len() < 1000);
+        let (name, mol) = read_molfile(alloc, text.as_bytes())??;
+        assert_eq!(rt; name.bytes(), b"c".as_slice());
+        assert_eq!(rt; mol.atoms().len(), 1);
     }
+    assert!(rt; read_molfile(alloc, b"")?.is_err_and(|at| at == (1, 12)));
+    assert!(rt; read_molfile(alloc, b"$$$$\nc\n")?.is_err_and(|at| at == (1, 12)));
+    assert!(rt; read_molfile(alloc, b"c\n\n")?.is_err_and(|at| at == (3, 12)));
     Ok(())
 }
 
-#[test]
-fn reads_a_query(rt: HostRuntime) -> Result<(), Fail> {
-    let carbon = QueryAtom {
-        test: AtomTest::Element(6),
-        charge: 0,
-        mass: 0,
-    };
-    for end in ["$$$$\n", ""] {
-        let text = CARBON.replacen(rt.alloc(), "$$$$\n", end, 1)?;
-        let query = plain_query(rt.alloc(), text.as_bytes())??;
-        assert_eq!(rt; query.atoms(), [carbon].as_slice());
-        assert!(rt; query.bonds().is_empty());
-    }
-    let query = plain_query(rt.alloc(), ETHANOL.as_bytes())??;
-    let asked = QueryBond {
-        first: 1,
-        second: 2,
-        kind: 1,
-        topology: 0,
-        ring: false,
-    };
-    assert_eq!(rt; query.bonds().first(), Some(&asked));
-    let query = plain_query(rt.alloc(), ETHER.as_bytes())??;
-    let ends = query.bonds().get(1).map(|bond| (bond.first, bond.second));
-    assert_eq!(rt; ends, Some((3, 2)));
-    assert!(rt; plain_query(rt.alloc(), b"")?.is_err());
-    let text = format!(in rt.alloc(); "{CARBON}{CARBON}")?;
-    assert!(rt; plain_query(rt.alloc(), text.as_bytes())?.is_err());
-    Ok(())
-}
-
-// A plain section of so many carbons and no bond.
-fn carbons(alloc: Global, count: u16) -> Result<String, Fail> {
-    let mut text = format!(in alloc; "\n\n\n{count:3}  0  0  0  0  0  0  0  0  0999 V2000\n")?;
-    for _ in 0..count {
-        text.push_str("    0.0000    0.0000    0.0000 C   0  0\n")?;
-    }
-    text.push_str("M  END\n")?;
-    Ok(text)
+// Whether the bonds have these flags.
+fn is_marked(mol: &Mol, flags: &[bool]) -> bool {
+    mol.bonds()
+        .iter()
+        .map(|bond| bond.ring)
+        .eq(flags.iter().copied())
 }
 
 #[test]
-fn refuses_large_queries(rt: HostRuntime) -> Result<(), Fail> {
-    for (count, plain) in [(64, true), (65, false)] {
-        let text = carbons(rt.alloc(), count)?;
-        assert_eq!(rt; plain_query(rt.alloc(), text.as_bytes())?.is_ok(), plain);
+fn marks_ring_bonds(rt: HostRuntime) -> Result<(), Fail> {
+    let alloc = rt.alloc();
+    let flags = [true, true, true, false];
+    let (_, mol) = read_molfile(alloc, TAILED_RING.as_bytes())??;
+    assert!(rt; is_marked(&mol, flags.as_slice()));
+    let mut reader = RecordReader::new(alloc)?;
+    reader.feed(CARBON.as_bytes())?;
+    reader.feed(TAILED_RING.as_bytes())?;
+    reader.feed(TAILED_RING.as_bytes())?;
+    for wanted in [&flags[..0], flags.as_slice(), flags.as_slice()] {
+        let Next::Accepted {
+            place: _,
+            name: _,
+            mol,
+        } = reader.next_record()?
+        else {
+            panic!(rt; "no record");
+        };
+        assert!(rt; is_marked(&mol, wanted));
     }
     Ok(())
 }

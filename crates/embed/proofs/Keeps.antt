@@ -39,29 +39,36 @@ one-fails m f p bonds here k d answer same within answered failed =
 pub length-shape : (q : QueryGraph) (g : Graph) → g ≡ query_shape q → length g.bonds ≡ length q.bonds
 length-shape q g is = ap (λ (h : Graph). length h.bonds) is ∙ length-map q.bonds query_bond_ends
 
-larger : (a b n : ℕ) → max a b ≡ n → (a ≡ n) ⊎ (b ≡ n)
+pub larger : (a b n : ℕ) → max a b ≡ n → (a ≡ n) ⊎ (b ≡ n)
 larger a b n is = elim (cases_eq a n) [
   | inl first ↦ inl first
   | inr other ↦ inr (omega arith)
 ]
+
+-- at the chain's end it is known of each bond of the query whose later end is atom n
+pub Walked-last : (q : QueryGraph) (g : Graph) (n link k : ℕ) (d : QueryBond) (P : ℕ → Type 0) → g ≡ query_shape q
+    → Walked g.bonds n link P → link ≡ 0 → k < length q.bonds
+    → max (get_or q.bonds k d).first (get_or q.bonds k d).second ≡ n → P k
+Walked-last q g n link k d P is walked end within last =
+    let b : QueryBond = get_or q.bonds k d in
+    let e : Ends = query_bond_ends d in
+    let there : get_or g.bonds k e ≡ query_bond_ends b = ap (λ (h : Graph). get_or h.bonds k e) is
+    ∙ get_or-map query_bond_ends q.bonds k d e within in
+    let in_graph : k < length g.bonds = omega (arith, length-shape q g is) in
+    elim (larger b.first b.second n last) [
+      | inl first ↦ Walked-all g.bonds n link k e P walked end in_graph
+          (inl (ap (λ (x : Ends). x.first) there ∙ first))
+      | inr second ↦ Walked-all g.bonds n link k e P walked end in_graph
+          (inr (ap (λ (x : Ends). x.second) there ∙ second))
+    ]
 
 pub all-keep : (q : QueryGraph) (m : Molecule) (g : Graph) (f : List ℕ) (p link : ℕ) → g ≡ query_shape q
     → Walked g.bonds (length f + 1) link (KeepsAt m f p q.bonds) → link ≡ 0
     → bonds_keep q m f p ≡ true
 all-keep q m g f p link is walked end = list_all-from_AllPass (bond_keeps m f p) q.bonds (λ k d within.
     let b : QueryBond = get_or q.bonds k d in
-    let next : ℕ = length f + 1 in
-    let e : Ends = query_bond_ends d in
-    let there : get_or g.bonds k e ≡ query_bond_ends b = ap (λ (h : Graph). get_or h.bonds k e) is
-    ∙ get_or-map query_bond_ends q.bonds k d e within in
-    let in_graph : k < length g.bonds = omega (arith, length-shape q g is) in
-    elim (cases_eq (max b.first b.second) next) [
-      | inl last ↦ elim (larger b.first b.second next last) [
-        | inl first ↦ Walked-all g.bonds next link k e (KeepsAt m f p q.bonds) walked end in_graph
-            (inl (ap (λ (x : Ends). x.first) there ∙ first)) d
-        | inr second ↦ Walked-all g.bonds next link k e (KeepsAt m f p q.bonds) walked end in_graph
-            (inr (ap (λ (x : Ends). x.second) there ∙ second)) d
-      ]
-      | inr before ↦ or_left (not (eqb (max b.first b.second) next)) _
-          (not_from_false _ (ne_eqb (max b.first b.second) next before))
+    elim (cases_eq (max b.first b.second) (length f + 1)) [
+      | inl last ↦ Walked-last q g (length f + 1) link k d (KeepsAt m f p q.bonds) is walked end within last d
+      | inr before ↦ or_left (not (eqb (max b.first b.second) (length f + 1))) _
+          (not_from_false _ (ne_eqb (max b.first b.second) (length f + 1) before))
     ])

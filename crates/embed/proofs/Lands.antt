@@ -10,9 +10,8 @@ use Rattle.htss_defs.specs.declared.query.QueryBond.{QueryBond}
 use Rattle.htss_defs.specs.Graph.{Graph, joins}
 use Rattle.htss_defs.specs.Adjacency.{JoinsAt}
 use Rattle.htss_defs.specs.Molecule.{Molecule, IsMolecule, AreBondsApart, bond_ends, molecule_graph}
-use Rattle.htss_defs.specs.Passes.{kind_passes}
+use Rattle.htss_defs.specs.Cost.{bond_passes, bond_lands}
 use Rattle.htss_defs.proofs.Chains.{joins-sym, both}
-use Rattle.embed.specs.Tests.{bond_lands}
 
 -- where b joins x and y, another bond joins these two exactly if it joins the places of b
 joins-through : (e b : Ends) (x y : ℕ) → joins b x y ≡ true → joins e b.first b.second ≡ joins e x y
@@ -66,22 +65,22 @@ bond_lands-none m g asked x y is none = list_any_none _ m.bonds (λ k d within.
     and_left _ _ (ap (λ (b : Ends). joins b x y) (sym (ends-at m g k d e is within)) ∙ none k e in_graph))
 
 pub bond_lands-at : (m : Molecule) (g : Graph) (asked : QueryBond) (x y k : ℕ) (d : Bond) → IsMolecule m
-    → g ≡ molecule_graph m → JoinsAt g k x y → bond_lands m asked x y ≡ kind_passes asked.kind (get_or m.bonds k d).kind
+    → g ≡ molecule_graph m → JoinsAt g k x y → bond_lands m asked x y ≡ bond_passes asked (get_or m.bonds k d)
 bond_lands-at m g asked x y k d valid is j =
     let within : k < length m.bonds = within-JoinsAt m g k x y is j in
-    let test : Bond → Bool = λ b. joins (bond_ends b) x y && kind_passes asked.kind b.kind in
+    let test : Bond → Bool = λ b. joins (bond_ends b) x y && bond_passes asked b in
     let here : j.ends ≡ bond_ends (get_or m.bonds k d) = sym
     (get_or_from_slice_get g.bonds k j.ends j.ends j.here) ∙ ends-at m g k d j.ends is within in
     let joined : joins (bond_ends (get_or m.bonds k d)) x y ≡ true = ap (λ (b : Ends). joins b x y) (sym here)
     ∙ j.joined in
-    elim (cases_Bool (kind_passes asked.kind (get_or m.bonds k d).kind)) [
+    elim (cases_Bool (bond_passes asked (get_or m.bonds k d))) [
       | inl passed ↦ list_any_at test m.bonds k d within (and_from _ _ joined passed) ∙ sym passed
       | inr failed ↦ list_any_none test m.bonds (λ i c in_i. false_from_ne_true (test (get_or m.bonds i c)) (λ t.
           let parts = and_parts _ _ t in
           let same : get_or m.bonds i c ≡ get_or m.bonds i d = get_or_default m.bonds i c d in_i in
           let once : i ≡ k = joins-once m.bonds i k x y d valid.no_pair_twice in_i within
           (ap (λ (b : Bond). joins (bond_ends b) x y) (sym same) ∙ parts.0) joined in
-          both parts.1 (ap (λ (b : Bond). kind_passes asked.kind b.kind)
+          both parts.1 (ap (λ (b : Bond). bond_passes asked b)
           (same ∙ ap (λ (n : ℕ). get_or m.bonds n d) once) ∙ failed))) ∙ sym failed
     ]
 
@@ -92,7 +91,7 @@ no_bond = record { first = 0; second = 0; kind = 0; ring = false }
 
 pub bond_lands-found : (m : Molecule) (g : Graph) (asked : QueryBond) (x y k : ℕ) (d : Bond)
     (bonds : List Bond) (answer : Bool) → IsMolecule m → g ≡ molecule_graph m → JoinsAt g k x y → bonds ≡ m.bonds
-    → answer ≡ kind_passes asked.kind (get_or bonds k d).kind → answer ≡ bond_lands m asked x y
+    → answer ≡ bond_passes asked (get_or bonds k d) → answer ≡ bond_lands m asked x y
 bond_lands-found m g asked x y k d bonds answer valid is j same answered =
-    answered ∙ ap (λ (bs : List Bond). kind_passes asked.kind (get_or bs k d).kind) same
+    answered ∙ ap (λ (bs : List Bond). bond_passes asked (get_or bs k d)) same
     ∙ sym (bond_lands-at m g asked x y k d valid is j)

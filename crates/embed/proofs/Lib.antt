@@ -3,3 +3,7 @@ pub mod Maps
 pub mod Bridge
 pub mod Lands
 pub mod Keeps
+pub mod Law
+pub mod Costs
+pub mod Anchors
+pub mod Steps

@@ -1,9 +1,9 @@
 -- How maps of the first atoms of a query grow into embeddings.
-use Rattle.std.proofs.Common.{◌≡◌, ◌≢◌, ℕ, zero, suc, ◌+◌, ◌-◌, ◌<◌, ◌≤◌, true, false, not, eqb, max, List, [], ◌∷◌, ◌++◌, length, get_or, take, All, refl, sym, ap, ◌∙◌, subst, inl, inr, arith, IsTrue}
+use Rattle.std.proofs.Common.{◌≡◌, ◌≢◌, ℕ, zero, suc, ◌+◌, ◌-◌, ◌<◌, ◌≤◌, true, false, not, eqb, max, List, [], ◌∷◌, ◌++◌, length, get_or, take, All, refl, sym, ap, ◌∙◌, subst, inl, inr, arith, IsTrue, length-take}
 use Rattle.std.specs.Prelude.{slice_get, slice_index, Some, None, Option, IsSome}
 use Rattle.std.specs.List.{list_any}
 use Rattle.std.proofs.lemmas.Bool.{and_parts, and_from, not-true, not_from_false, or_cases, or_left, or_right, cases_eq, eq-eqb, ne_eqb, cases_order, cases_lt}
-use Rattle.std.proofs.lemmas.List.{take_more, length_push, take-take, get_or_default, take_all, take_at, get_or-take, get_or_push, get_or_append_left}
+use Rattle.std.proofs.lemmas.List.{take_more, length_push, take-take, take_all, take_at, get_or-take, get_or_push, get_or_append_left}
 use Rattle.std.proofs.lemmas.List.Sums.{AllPass-from_list_all, list_all-from_AllPass}
 use Rattle.std.proofs.lemmas.List.Folds.{list_any_at, list_any_none}
 use Rattle.std.proofs.lemmas.List.Quantifiers.{all_pairs_push}
@@ -14,12 +14,13 @@ use Rattle.htss_defs.specs.Molecule.{Molecule}
 use Rattle.htss_defs.specs.QueryGraph.{QueryGraph, IsQuery, IsQueryBond}
 use Rattle.htss_defs.specs.Embedding.{IsFirstOrSame, place_of}
 use Rattle.htss_defs.proofs.Chains.{both}
-use Rattle.embed.specs.Tests.{passes, at_place, bond_lands, bond_keeps, bonds_keep, may_extend}
-use Rattle.embed.specs.Partial.{IsPartial, GoesOn, IsFirstFrom, IsStuck, NoneBy}
+use Rattle.htss_defs.specs.Cost.{passes, at_place, bond_lands}
+use Rattle.embed.specs.Tests.{PassesAll, bond_keeps, bonds_keep, may_extend}
+use Rattle.embed.specs.Partial.{IsPartial, GoesOn, IsFirstFrom, IsStuck, NoneBelow}
 use Rattle.embed.proofs.Order.{IsFirstOrSame-same, IsFirstOrSame-at}
 
 -- the place of an atom before the last
-place_of_before : (f : List ℕ) (p u : ℕ) → 1 ≤ u → u ≤ length f → place_of (f ++ p ∷ []) u ≡ place_of f u
+pub place_of_before : (f : List ℕ) (p u : ℕ) → 1 ≤ u → u ≤ length f → place_of (f ++ p ∷ []) u ≡ place_of f u
 place_of_before f p u low high = get_or_append_left f (p ∷ []) 0 (u - 1) (omega arith)
 
 -- ---- a map grows by a place
@@ -53,7 +54,7 @@ may_extend-from q m f p e = and_from _ _ (and_from _ _ e.atom (not_from_false _ 
 eqb-not-true : (a b : ℕ) → a ≡ b → not (eqb a b) ≡ true → ⊥
 eqb-not-true a b same differ = grind (arith, eq-eqb a b same)
 
-not_there : (f : List ℕ) (p k : ℕ) (d : ℕ) → k < length f → list_any (λ x. eqb x p) f ≡ false → get_or f k d ≢ p
+pub not_there : (f : List ℕ) (p k : ℕ) (d : ℕ) → k < length f → list_any (λ x. eqb x p) f ≡ false → get_or f k d ≢ p
 not_there f p k d within free = λ same. let found = list_any_at (λ x. eqb x p) f k d within (eq-eqb _ _ same) in cc
 
 at_last : (q : QueryGraph) (m : Molecule) (f : List ℕ) (p i : ℕ) → i ≡ length f
@@ -125,12 +126,6 @@ IsFirstFrom-whole q m f query partial all = record {
 
 -- ---- where the next atom stands
 
-clash : (f h : List ℕ) (k d p : ℕ) → k < length f → length f < length h → take (length f) h ≡ f
-    → slice_index h (length f) ≡ p → get_or f k d ≡ p → get_or h k d ≡ get_or h (length f) d
-clash f h k d p within in_h begins is same =
-    sym (get_or-take (length f) h k d within) ∙ ap (λ (g : List ℕ). get_or g k d) begins ∙ same ∙ sym is
-    ∙ get_or_default h (length f) 0 d in_h
-
 not-at-0 : (asked : Option QueryAtom) → passes asked None ≡ true → ⊥
 not-at-0 None passed = absurd cc
 not-at-0 (Some a) passed = absurd cc
@@ -152,7 +147,7 @@ at_place-within xs p there =
       | inr more ↦ omega (arith, slice_get-within xs (p - 1) (rw (ne_eqb p 0 more) at there))
     ]
 
-within_atoms : (q : QueryGraph) (m : Molecule) (h : List ℕ) (k n : ℕ)
+pub within_atoms : (q : QueryGraph) (m : Molecule) (h : List ℕ) (k n : ℕ)
     → IsTrue (passes (slice_get q.atoms k) (at_place m.atoms (slice_index h k))) → length m.atoms ≤ n
     → slice_index h k ≤ n
 within_atoms q m h k n passed all =
@@ -188,125 +183,117 @@ place_of-taken : (f h : List ℕ) (n u : ℕ) → take n h ≡ f → 1 ≤ u →
 place_of-taken f h n u begins low high = ap (λ (g : List ℕ). get_or g (u - 1) 0) (sym begins)
     ∙ get_or-take n h (u - 1) 0 (omega arith)
 
--- the next atom may stand where an embedding has it
-may-from_embedding : (q : QueryGraph) (m : Molecule) (f h : List ℕ) (p : ℕ) → IsQuery q → GoesOn q m f h
-    → length f < length q.atoms → slice_index h (length f) ≡ p → may_extend q m f p ≡ true
-may-from_embedding q m f h p query on more is =
-    let e = on.embeds in
-    let in_h : length f < length h = omega (arith, e.one_each) in
-    let begins = next-begins q m f h p on more is in
+-- the next atom may stand where a longer map has it
+pub may-from_partial : (q : QueryGraph) (m : Molecule) (f : List ℕ) (p : ℕ) → IsPartial q m (f ++ p ∷ [])
+    → may_extend q m f p ≡ true
+may-from_partial q m f p partial =
+    let len = length_push f p in
     may_extend-from q m f p (record {
-      free = list_any_none (λ x. eqb x p) f
-          (λ k d within. ne_eqb (get_or f k d) p
-          (λ same. e.apart k (length f) d within in_h (clash f h k d p within in_h on.begins is same)));
-      atom = subst (λ (x : ℕ). IsTrue (passes (slice_get q.atoms (length f)) (at_place m.atoms x))) is
-          (e.atoms (length f) in_h);
+      free = list_any_none (λ x. eqb x p) f (λ k d within. ne_eqb (get_or f k d) p
+          (λ same. partial.apart k (length f) d within (omega arith)
+          (get_or_append_left f (p ∷ []) d k within ∙ same ∙ sym (get_or_push f p d (length f) refl))));
+      atom = subst (λ (x : ℕ). IsTrue (passes (slice_get q.atoms (length f)) (at_place m.atoms x)))
+          (get_or_push f p 0 (length f) refl) (partial.atoms (length f) (omega arith));
       bonds = list_all-from_AllPass (bond_keeps m f p) q.bonds (λ k d within.
           let b : QueryBond = get_or q.bonds k d in
-          let valid : IsQueryBond (length q.atoms) b = query.each_bond k d within in
           elim (cases_eq (max b.first b.second) (length f + 1)) [
             | inl last ↦ or_right (not (eqb (max b.first b.second) (length f + 1))) _
-                (rw (
-                  place_of-taken (f ++ p ∷ []) h (length f + 1) b.first begins valid.ends.first.0
-                      (omega arith),
-                  place_of-taken (f ++ p ∷ []) h
-                      (length f + 1) b.second begins valid.ends.second.0 (omega arith),
-                ) (e.bonds k d within))
+                (partial.bonds k d within (omega arith) (omega arith))
             | inr before ↦ or_left _ (bond_lands m b (place_of (f ++ p ∷ []) b.first)
                 (place_of (f ++ p ∷ []) b.second))
                 (not_from_false _ (ne_eqb (max b.first b.second) (length f + 1) before))
           ]);
     })
 
--- ---- no embedding by the first places
+-- the first places of an embedding keep all tests
+pub IsPartial-taken : (q : QueryGraph) (m : Molecule) (h : List ℕ) (n : ℕ) → IsQuery q → PassesAll q m h
+    → n ≤ length h → IsPartial q m (take n h)
+IsPartial-taken q m h n query e le =
+    let len : length (take n h) ≡ n = omega (arith, length-take n h) in
+    record {
+      fits = omega (arith, e.one_each);
+      apart = λ i j d lt within same. e.apart i j d lt (omega arith)
+          (sym (get_or-take n h i d (omega arith)) ∙ same ∙ get_or-take n h j d (omega arith));
+      atoms = λ i within. subst (λ (x : ℕ). IsTrue (passes (slice_get q.atoms i) (at_place m.atoms x)))
+          (sym (get_or-take n h i 0 (omega arith))) (e.atoms i (omega arith));
+      bonds = λ k d within first second.
+          let b : QueryBond = get_or q.bonds k d in
+          let valid : IsQueryBond (length q.atoms) b = query.each_bond k d within in
+          rw (
+            place_of-taken (take n h) h n b.first refl valid.ends.first.0 (omega arith),
+            place_of-taken (take n h) h n b.second refl valid.ends.second.0 (omega arith),
+          ) (e.bonds k d within);
+    }
+
+-- the next atom may stand where an embedding has it
+may-from_embedding : (q : QueryGraph) (m : Molecule) (f h : List ℕ) (p : ℕ) → IsQuery q → GoesOn q m f h
+    → length f < length q.atoms → slice_index h (length f) ≡ p → may_extend q m f p ≡ true
+may-from_embedding q m f h p query on more is = may-from_partial q m f p
+    (subst (λ (g : List ℕ). IsPartial q m g) (next-begins q m f h p on more is)
+    (IsPartial-taken q m h (length f + 1) query on.embeds (omega (arith, on.embeds.one_each))))
+
+-- ---- no embedding by the places below
 
 -- a place before 1 holds no atom
 no-atom-at-0 : (q : QueryGraph) (m : Molecule) (f : List ℕ) → may_extend q m f 0 ≡ true → ⊥
 no-atom-at-0 q m f may = not-at-0 (slice_get q.atoms (length f)) (Extends-from q m f 0 may).atom
 
-pub NoneBy-start : (q : QueryGraph) (m : Molecule) (f : List ℕ) → IsQuery q → length f < length q.atoms → NoneBy q m f 0
-NoneBy-start q m f query more = record {
-  none = λ whole on le.
+pub NoneBelow-start : (q : QueryGraph) (m : Molecule) (f : List ℕ) → IsQuery q → length f < length q.atoms
+    → NoneBelow q m f 1
+NoneBelow-start q m f query more = record {
+  none = λ whole on lt.
       no-atom-at-0 q m f (may-from_embedding q m f whole 0 query on more (omega arith));
 }
 
-pub NoneBy-refused : (q : QueryGraph) (m : Molecule) (f : List ℕ) (n : ℕ) → IsQuery q
-    → length f < length q.atoms → NoneBy q m f n → may_extend q m f (n + 1) ≡ false → NoneBy q m f (n + 1)
-NoneBy-refused q m f n query more none refused = record {
-  none = λ whole on le.
-      elim (cases_lt (slice_index whole (length f)) (n + 1)) [
-        | inl below ↦ none.none whole on (omega arith)
-        | inr here ↦ both (may-from_embedding q m f whole (n + 1) query on more (omega arith)) refused
+-- where the next atom may stand at none of the places between
+pub NoneBelow-over : (q : QueryGraph) (m : Molecule) (f : List ℕ) (n p : ℕ) → IsQuery q
+    → length f < length q.atoms → NoneBelow q m f n
+    → ((x : ℕ) → n ≤ x → x < p → may_extend q m f x ≡ false) → NoneBelow q m f p
+NoneBelow-over q m f n p query more none refused = record {
+  none = λ whole on lt.
+      let x : ℕ = slice_index whole (length f) in
+      elim (cases_lt x n) [
+        | inl below ↦ none.none whole on below
+        | inr above ↦ both (may-from_embedding q m f whole x query on more refl) (refused x above lt)
       ];
 }
 
-pub NoneBy-stuck : (q : QueryGraph) (m : Molecule) (f : List ℕ) (n : ℕ) → length f < length q.atoms
-    → NoneBy q m f n → IsStuck q m (f ++ (n + 1) ∷ []) → NoneBy q m f (n + 1)
-NoneBy-stuck q m f n more none stuck = record {
-  none = λ whole on le.
-      elim (cases_lt (slice_index whole (length f)) (n + 1)) [
-        | inl below ↦ none.none whole on (omega arith)
-        | inr here ↦ stuck whole (GoesOn-next q m f whole (n + 1) on more (omega arith))
+pub NoneBelow-refused : (q : QueryGraph) (m : Molecule) (f : List ℕ) (p : ℕ) → IsQuery q
+    → length f < length q.atoms → NoneBelow q m f p → may_extend q m f p ≡ false → NoneBelow q m f (p + 1)
+NoneBelow-refused q m f p query more none refused = NoneBelow-over q m f p (p + 1) query more none
+    (λ x low high. let e : x ≡ p = omega arith in ap (may_extend q m f) e ∙ refused)
+
+pub NoneBelow-stuck : (q : QueryGraph) (m : Molecule) (f longer : List ℕ) (p : ℕ) → length f < length q.atoms
+    → NoneBelow q m f p → longer ≡ f ++ p ∷ [] → IsStuck q m longer → NoneBelow q m f (p + 1)
+NoneBelow-stuck q m f longer p more none pushed stuck = record {
+  none = λ whole on lt.
+      elim (cases_lt (slice_index whole (length f)) p) [
+        | inl below ↦ none.none whole on below
+        | inr here ↦ stuck whole (subst (λ (g : List ℕ). GoesOn q m g whole) (sym pushed)
+            (GoesOn-next q m f whole p on more (omega arith)))
       ];
 }
 
-pub IsStuck-from : (q : QueryGraph) (m : Molecule) (f : List ℕ) (n : ℕ) → length m.atoms ≤ n
-    → length f < length q.atoms → NoneBy q m f n → IsStuck q m f
-IsStuck-from q m f n all more none whole on =
-    none.none whole on (within_atoms q m whole (length f) n
-    (on.embeds.atoms (length f) (omega (arith, on.embeds.one_each))) all)
+pub IsStuck-from : (q : QueryGraph) (m : Molecule) (f : List ℕ) → length f < length q.atoms
+    → NoneBelow q m f (length m.atoms + 1) → IsStuck q m f
+IsStuck-from q m f more none whole on =
+    let there = on.embeds.atoms (length f) (omega (arith, on.embeds.one_each)) in
+    none.none whole on (omega (arith, within_atoms q m whole (length f) (length m.atoms) there (omega arith)))
 
-pub IsFirstFrom-next : (q : QueryGraph) (m : Molecule) (f g : List ℕ) (n : ℕ) → length f < length q.atoms
-    → NoneBy q m f n → IsFirstFrom q m (f ++ (n + 1) ∷ []) g → IsFirstFrom q m f g
-IsFirstFrom-next q m f g n more none from =
+pub IsFirstFrom-next : (q : QueryGraph) (m : Molecule) (f longer g : List ℕ) (p : ℕ) → length f < length q.atoms
+    → NoneBelow q m f p → longer ≡ f ++ p ∷ [] → IsFirstFrom q m longer g → IsFirstFrom q m f g
+IsFirstFrom-next q m f longer g p more none pushed found =
+    let from : IsFirstFrom q m (f ++ p ∷ []) g = subst (λ (x : List ℕ). IsFirstFrom q m x g) pushed found in
     let on = from.goes_on in
-    let begins : take (length f + 1) g ≡ f ++ (n + 1) ∷ [] = rw (length_push f (n + 1)) at on.begins in
-    let shorter : take (length f) g ≡ f = shorter-front f g (n + 1) begins in
-    let here : slice_index g (length f) ≡ n + 1 = at-front f g (n + 1) begins in
+    let begins : take (length f + 1) g ≡ f ++ p ∷ [] = rw (length_push f p) at on.begins in
+    let shorter : take (length f) g ≡ f = shorter-front f g p begins in
+    let here : slice_index g (length f) ≡ p = at-front f g p begins in
     record {
       goes_on = record { embeds = on.embeds; begins = shorter };
-      first = λ other goes. elim (cases_order (slice_index other (length f)) (n + 1)) [
-        | inl same ↦ from.first other (GoesOn-next q m f other (n + 1) goes more same)
-        | inr (inl below) ↦ absurd (none.none other goes (omega arith))
+      first = λ other goes. elim (cases_order (slice_index other (length f)) p) [
+        | inl same ↦ from.first other (GoesOn-next q m f other p goes more same)
+        | inr (inl below) ↦ absurd (none.none other goes below)
         | inr (inr above) ↦ IsFirstOrSame-at (length f) g other (shorter ∙ sym goes.begins)
             (omega (arith, on.embeds.one_each)) (omega (arith, goes.embeds.one_each)) (omega arith)
       ];
     }
-
--- ---- the same at the values of the code
-
-pub IsPartial-pushed : (q : QueryGraph) (m : Molecule) (f slice g longer : List ℕ) (p : ℕ) → IsQuery q
-    → IsPartial q m f → length f < length q.atoms
-    → g ≡ f → slice ≡ g → longer ≡ g ++ p ∷ [] → may_extend q m slice p ≡ true → IsPartial q m longer
-IsPartial-pushed q m f slice g longer p query partial more same slice-is pushed may =
-    let e : longer ≡ f ++ p ∷ [] = pushed ∙ ap (λ (x : List ℕ). x ++ p ∷ []) same in
-    let may' : may_extend q m f p ≡ true = subst (λ (x : List ℕ). may_extend q m x p ≡ true) (slice-is ∙ same) may in
-    subst (λ (x : List ℕ). IsPartial q m x) (sym e) (IsPartial-push q m f p query partial more may')
-
-pub IsFirstFrom-pushed : (q : QueryGraph) (m : Molecule) (f g longer whole : List ℕ) (n : ℕ)
-    → length f < length q.atoms → NoneBy q m f n
-    → g ≡ f → longer ≡ g ++ (n + 1) ∷ [] → IsFirstFrom q m longer whole → IsFirstFrom q m f whole
-IsFirstFrom-pushed q m f g longer whole n more none same pushed from =
-    let e : longer ≡ f ++ (n + 1) ∷ [] = pushed ∙ ap (λ (x : List ℕ). x ++ (n + 1) ∷ []) same in
-    IsFirstFrom-next q m f whole n more none (subst (λ (x : List ℕ). IsFirstFrom q m x whole) e from)
-
-pub NoneBy-popped : (q : QueryGraph) (m : Molecule) (f g longer : List ℕ) (n : ℕ) → length f < length q.atoms
-    → NoneBy q m f n
-    → g ≡ f → longer ≡ g ++ (n + 1) ∷ [] → IsStuck q m longer → NoneBy q m f (n + 1)
-NoneBy-popped q m f g longer n more none same pushed stuck =
-    let e : longer ≡ f ++ (n + 1) ∷ [] = pushed ∙ ap (λ (x : List ℕ). x ++ (n + 1) ∷ []) same in
-    NoneBy-stuck q m f n more none (subst (λ (x : List ℕ). IsStuck q m x) e stuck)
-
-pub NoneBy-passed : (q : QueryGraph) (m : Molecule) (f slice g : List ℕ) (n : ℕ) → IsQuery q
-    → length f < length q.atoms → NoneBy q m f n
-    → g ≡ f → slice ≡ g → may_extend q m slice (n + 1) ≡ false → NoneBy q m f (n + 1)
-NoneBy-passed q m f slice g n query more none same slice-is refused =
-    NoneBy-refused q m f n query more none
-    (subst (λ (x : List ℕ). may_extend q m x (n + 1) ≡ false) (slice-is ∙ same) refused)
-
-pub popped : (f g longer back shorter : List ℕ) (p : ℕ) → g ≡ f → longer ≡ g ++ p ∷ [] → back ≡ longer
-    → shorter ≡ take (length back - 1) back → shorter ≡ f
-popped f g longer back shorter p same pushed is rest =
-    let e : back ≡ f ++ p ∷ [] = is ∙ pushed ∙ ap (λ (x : List ℕ). x ++ p ∷ []) same in
-    rest ∙ ap (λ (x : List ℕ). take (length x - 1) x) e
-    ∙ take_at f (p ∷ []) (length (f ++ p ∷ []) - 1) (omega (arith, length_push f p))

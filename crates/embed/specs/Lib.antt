@@ -1,2 +1,4 @@
 pub mod Tests
 pub mod Partial
+pub mod Candidates
+pub mod Paid

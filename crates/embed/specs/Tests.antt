@@ -1,28 +1,11 @@
--- The tests of the search as functions into Bool: a law ties them to what an embedding is.
-use Rattle.std.specs.Prelude.{◌≡◌, ◌≢◌, ℕ, ◌+◌, ◌-◌, List, [], ◌∷◌, ◌++◌, length, slice_get, slice_index, max, All, AllPairs, EachIndex, Option, None, Some, Bool, false, not, ◌&&◌, ◌||◌, ◌==◌, if◌then◌else◌, IsTrue}
+-- The tests of one more place as functions into Bool, and what an embedding passes.
+use Rattle.std.specs.Prelude.{◌≡◌, ◌≢◌, ℕ, ◌+◌, List, [], ◌∷◌, ◌++◌, length, slice_get, max, All, AllPairs, EachIndex, Bool, not, ◌&&◌, ◌||◌, ◌==◌, IsTrue}
 use Rattle.std.specs.List.{list_any, list_all}
-use Rattle.htss_defs.specs.declared.mol.Atom.{Atom}
-use Rattle.htss_defs.specs.declared.query.QueryAtom.{QueryAtom}
 use Rattle.htss_defs.specs.declared.query.QueryBond.{QueryBond}
-use Rattle.htss_defs.specs.Graph.{joins}
-use Rattle.htss_defs.specs.Molecule.{Molecule, bond_ends}
+use Rattle.htss_defs.specs.Molecule.{Molecule}
 use Rattle.htss_defs.specs.QueryGraph.{QueryGraph}
-use Rattle.htss_defs.specs.Passes.{atom_passes, kind_passes}
 use Rattle.htss_defs.specs.Embedding.{place_of}
-
--- what stands at a place, counted from 1
-abbrev pub at_place : {X : Type 0} → List X → ℕ → Option X
-at_place xs p = if p == 0 then None else slice_get xs (p - 1)
-
--- there are both atoms, and the one of the molecule passes
-abbrev pub passes : Option QueryAtom → Option Atom → Bool
-passes None there = false
-passes (Some asked) None = false
-passes (Some asked) (Some a) = atom_passes asked a
-
--- the molecule has a bond between these places whose type passes
-abbrev pub bond_lands : Molecule → QueryBond → ℕ → ℕ → Bool
-bond_lands m asked x y = list_any (λ b. joins (bond_ends b) x y && kind_passes asked.kind b.kind) m.bonds
+use Rattle.htss_defs.specs.Cost.{at_place, passes, bond_lands, atom_lands}
 
 -- a bond of the query from its next atom to one before keeps its test, where the next atom stands at p
 abbrev pub bond_keeps : Molecule → List ℕ → ℕ → QueryBond → Bool
@@ -40,9 +23,9 @@ may_extend q m map p =
     && not (list_any (λ x. x == p) map)
     && bonds_keep q m map p
 
--- a place for each atom of the query, no place twice, and all tests but those of topology hold
+-- a place for each atom of the query, no place twice, and all tests hold
 pub record PassesAll (q : QueryGraph) (m : Molecule) (map : List ℕ) : Type 0 where
   pub one_each : length map ≡ length q.atoms
   pub apart : AllPairs (λ x y. x ≢ y) map
-  pub atoms : EachIndex map (λ i. IsTrue (passes (slice_get q.atoms i) (at_place m.atoms (slice_index map i))))
+  pub atoms : EachIndex map (λ i. IsTrue (atom_lands q m map i))
   pub bonds : All (λ b. IsTrue (bond_lands m b (place_of map b.first) (place_of map b.second))) q.bonds

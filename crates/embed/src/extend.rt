@@ -3,11 +3,11 @@ ghost use Rattle.std.specs.Prelude.{◌≡◌, ℕ, ◌<◌, ◌∷◌, ◌++◌
 ghost use Rattle.std.specs.Prelude.{IfSome};
 ghost use Rattle.std.specs.List.{list_any};
 ghost use Rattle.htss_defs.specs.Embedding.{place_of};
-ghost use Rattle.embed.specs.Tests.{at_place, passes, bond_lands, bond_keeps, bonds_keep};
-ghost use Rattle.embed.specs.Tests.{may_extend};
+ghost use Rattle.htss_defs.specs.Cost.{at_place, passes, flag_passes, bond_passes, bond_lands};
+ghost use Rattle.embed.specs.Tests.{bond_keeps, bonds_keep, may_extend};
 
 use crate::target::Target;
-use htss_defs::{Atom, Mol, Query, QueryBond, atom_passes, kind_passes};
+use htss_defs::{Atom, Bond, Mol, Query, QueryBond, atom_passes, kind_passes};
 
 // Whether the next atom of the query may stand at p, where the atoms before it stand as map says.
 pub fn may_extend(target: &Target<'_>, map: &[u16], p: u16) -> bool
@@ -77,7 +77,7 @@ fn bond_keeps(target: &Target<'_>, map: &[u16], p: u16, asked: QueryBond) -> boo
 }
 
 // The place of atom u, where the next atom stands at p.
-fn place(map: &[u16], p: u16, u: u16) -> u16
+pub fn place(map: &[u16], p: u16, u: u16) -> u16
     ensures { result ≡ place_of (map.now ++ p ∷ []) u }
 {
     let i = u.saturating_sub(1) as usize;
@@ -94,7 +94,24 @@ fn bond_lands(target: &Target<'_>, asked: QueryBond, x: u16, y: u16) -> bool
     ensures { result ≡ bond_lands target.now.mol.now asked x y }
 {
     match target.bonds.find(x, y) {
-        Some(k) => kind_passes(asked.kind, target.mol.bonds()[k as usize].kind),
+        Some(k) => bond_passes(asked, target.mol.bonds()[k as usize]),
         None => false,
+    }
+}
+
+fn bond_passes(asked: QueryBond, bond: Bond) -> bool
+    ensures { result ≡ bond_passes asked bond }
+{
+    kind_passes(asked.kind, bond.kind) && flag_passes(asked.topology, bond.ring)
+}
+
+// Topology 1 asks for a ring bond, 2 for one that is none.
+fn flag_passes(topology: u8, ring: bool) -> bool
+    ensures { result ≡ flag_passes topology ring }
+{
+    match topology {
+        1 => ring,
+        2 => !ring,
+        _ => true,
     }
 }

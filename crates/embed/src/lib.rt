@@ -1,6 +1,7 @@
 //! The least embedding of a query in a molecule.
 #![tactic(auto)]
 
+mod candidates;
 mod extend;
 mod matcher;
 mod search;
@@ -8,4 +9,5 @@ mod target;
 #[cfg(test)]
 mod tests;
 
-pub use matcher::{Matcher, first_map};
+pub use matcher::{Matcher, first_map, least_map};
+pub use search::Found;

@@ -1,8 +1,10 @@
-ghost use Rattle.std.specs.Prelude.{◌≡◌, ℕ, [], true, false};
-ghost use Rattle.htss_defs.specs.QueryGraph.{AsksNoTopology};
+ghost use Rattle.std.specs.Prelude.{◌≡◌, ◌≢◌, ℕ, ◌<◌, [], length, true, false};
+ghost use Rattle.htss_defs.specs.Marked.{IsMarked};
 ghost use Rattle.htss_defs.specs.Embedding.{IsLeastEmbedding, NoEmbedding};
+ghost use Rattle.htss_defs.specs.Cost.{cost};
+ghost use Rattle.embed.specs.Paid.{Paid};
 
-use crate::search::search;
+use crate::search::{Found, search};
 use crate::target::Target;
 use arrayvec::ArrayVec;
 use htss_defs::{Adjacency, Mol, Query};
@@ -43,9 +45,9 @@ impl<'a> Matcher<'a> {
     }
 
     /// Answers true with the least embedding of the query, or false with an empty map exactly where
-    /// there is none.
+    /// there is none. The bonds of the molecule are marked.
     pub fn first_map(&mut self, mol: &Mol, map: &mut ArrayVec<u16, 64>) -> bool
-        requires { AsksNoTopology self.old }
+        requires marked { IsMarked mol.now }
         ensures least { result ≡ true → IsLeastEmbedding self.old mol.now map.new.items }
         ensures none { result ≡ false → NoEmbedding self.old mol.now }
         ensures empty { result ≡ false → map.new.items ≡ [] }
@@ -57,19 +59,71 @@ impl<'a> Matcher<'a> {
             asked: &self.asked,
             mol,
             bonds: &self.bonds,
+            price: 0,
         };
         map.clear();
-        search(&target, map)
+        // a search that pays nothing is never spent
+        match search(&target, &mut 0, map) {
+            Found::Yes => true,
+            Found::No => false,
+            Found::Spent => unreachable!(),
+        }
+    }
+
+    /// The least embedding of the query, unless the budget is spent before it is found or known that
+    /// there is none: only where the cost exceeds the budget. The map is empty where the answer is
+    /// not `Yes`. The bonds of the molecule are marked.
+    pub fn least_map(&mut self, mol: &Mol, budget: &mut u64, map: &mut ArrayVec<u16, 64>) -> Found
+        requires marked { IsMarked mol.now }
+        ensures yes { result ≡ Found.Yes → IsLeastEmbedding self.old mol.now map.new.items }
+        ensures no { result ≡ Found.No → NoEmbedding self.old mol.now }
+        ensures spent { result ≡ Found.Spent → budget.old < cost self.old mol.now [] }
+        ensures left { result ≡ Found.Spent → budget.new ≡ 0 }
+        ensures paid { let cost = cost self.old mol.now [] in
+            result ≢ Found.Spent → Paid (length mol.now.atoms) cost budget.old budget.new }
+        ensures empty { result ≢ Found.Yes → map.new.items ≡ [] }
+        ensures same { self.new ≡ self.old }
+    {
+        mol.link(&mut self.bonds);
+        let target = Target {
+            query: self.query,
+            asked: &self.asked,
+            mol,
+            bonds: &self.bonds,
+            price: mol.atoms().len() as u64,
+        };
+        map.clear();
+        let found = search(&target, budget, map);
+        if found == Found::Spent {
+            map.clear();
+        }
+        found
     }
 }
 
 /// Answers true with the least embedding of the query in the molecule, or false with an empty map
-/// exactly where there is none.
+/// exactly where there is none. The bonds of the molecule are marked.
 pub fn first_map(query: &Query, mol: &Mol, map: &mut ArrayVec<u16, 64>) -> bool
-    requires { AsksNoTopology query.now }
+    requires marked { IsMarked mol.now }
     ensures least { result ≡ true → IsLeastEmbedding query.now mol.now map.new.items }
     ensures none { result ≡ false → NoEmbedding query.now mol.now }
     ensures empty { result ≡ false → map.new.items ≡ [] }
 {
     Matcher::new(query).first_map(mol, map)
+}
+
+/// The least embedding of the query in the molecule, unless the budget is spent before it is found
+/// or known that there is none: only where the cost exceeds the budget. The map is empty where the
+/// answer is not `Yes`. The bonds of the molecule are marked.
+pub fn least_map(query: &Query, mol: &Mol, budget: &mut u64, map: &mut ArrayVec<u16, 64>) -> Found
+    requires marked { IsMarked mol.now }
+    ensures yes { result ≡ Found.Yes → IsLeastEmbedding query.now mol.now map.new.items }
+    ensures no { result ≡ Found.No → NoEmbedding query.now mol.now }
+    ensures spent { result ≡ Found.Spent → budget.old < cost query.now mol.now [] }
+    ensures left { result ≡ Found.Spent → budget.new ≡ 0 }
+    ensures paid { let cost = cost query.now mol.now [] in
+        result ≢ Found.Spent → Paid (length mol.now.atoms) cost budget.old budget.new }
+    ensures empty { result ≢ Found.Yes → map.new.items ≡ [] }
+{
+    Matcher::new(query).least_map(mol, budget, map)
 }

@@ -20,6 +20,10 @@ hit_line hit = codes "hit " ++ decimal hit.number ++ 32 ∷ [] ++ map_text hit.m
 unfoldable pub count_line : ℕ → List ℕ
 count_line n = codes "hits " ++ decimal n ++ 10 ∷ []
 
+-- the line in place of hits that the budget does not allow
+unfoldable pub overbudget_line : ℕ → List ℕ
+overbudget_line budget = codes "overbudget " ++ decimal budget ++ 10 ∷ []
+
 -- a line for each hit, and their number
 abbrev pub hits_text : List Hit → List ℕ
 hits_text hits = flat_map hit_line hits ++ count_line (length hits)

@@ -32,8 +32,16 @@ spaced n = 32 ∷ decimal n
 unfoldable pub ok_line : ℕ → ℕ → ℕ → List ℕ → List ℕ
 ok_line place atoms bonds name = codes "ok" ++ spaced place ++ spaced atoms ++ spaced bonds ++ name_text name ++ 10 ∷ []
 
+-- where and why a record or a query is refused, at the end of a line
+unfoldable pub refusal_text : ℕ → ℕ → List ℕ
+refusal_text line code = spaced line ++ spaced code ++ 32 ∷ code_word code ++ 10 ∷ []
+
 unfoldable pub refused_line : ℕ → ℕ → ℕ → List ℕ
-refused_line place line code = codes "refused" ++ spaced place ++ spaced line ++ spaced code ++ 32 ∷ code_word code ++ 10 ∷ []
+refused_line place line code = codes "refused" ++ spaced place ++ refusal_text line code
+
+-- the line of a query that is refused
+unfoldable pub query_refused_line : ℕ → ℕ → List ℕ
+query_refused_line line code = codes "query refused" ++ refusal_text line code
 
 -- so many records, of which so many were accepted and so many refused
 unfoldable pub records_line : ℕ → ℕ → ℕ → List ℕ

@@ -1,6 +1,6 @@
 // Lines are appended to a text that is lent; where memory runs out the text is cut to what it was.
 ghost use Rattle.std.specs.Prelude.{◌≡◌, ℕ, ◌∷◌, ◌++◌, [], OnOk, OnErr, decimal};
-ghost use Rattle.hit_report.specs.HitLines.{hit_line, count_line, map_text};
+ghost use Rattle.hit_report.specs.HitLines.{hit_line, count_line, map_text, overbudget_line};
 ghost use Rattle.hit_report.specs.Appends.{KeepsFront};
 
 use crate::append::{append_bytes, append_name, append_number, kept_or_cut};
@@ -32,6 +32,17 @@ pub fn push_count(text: &mut Vec<u8>, count: u32) -> Result<(), OutOfMemory>
     kept_or_cut(text, before, appended)
 }
 
+/// Appends the line that stands in place of hits that the budget does not allow, `overbudget N` with the budget. An `Err` leaves
+/// the text as it was.
+pub fn push_overbudget(text: &mut Vec<u8>, budget: u64) -> Result<(), OutOfMemory>
+    ensures ok { OnOk result (text.new.items ≡ text.old.items ++ overbudget_line budget) }
+    ensures err { OnErr result (text.new.items ≡ text.old.items) }
+{
+    let before = text.len();
+    let appended = append_overbudget(text, budget);
+    kept_or_cut(text, before, appended)
+}
+
 #[tactic(auto, using(crate::proofs::Fronts::front_trans), unfolding(crate::specs::HitLines::hit_line))]
 fn append_hit(text: &mut Vec<u8>, number: u32, map: &[u16], name: &[u8]) -> Result<(), OutOfMemory>
     ensures ok { OnOk result (text.new.items
@@ -53,6 +64,16 @@ fn append_count(text: &mut Vec<u8>, count: u32) -> Result<(), OutOfMemory>
 {
     append_bytes(text, b"hits ")?;
     append_number(text, u64::from(count))?;
+    append_bytes(text, b"\n")
+}
+
+#[tactic(auto, using(crate::proofs::Fronts::front_trans), unfolding(crate::specs::HitLines::overbudget_line))]
+fn append_overbudget(text: &mut Vec<u8>, budget: u64) -> Result<(), OutOfMemory>
+    ensures ok { OnOk result (text.new.items ≡ text.old.items ++ overbudget_line budget) }
+    ensures front { KeepsFront text.old.items text.new.items }
+{
+    append_bytes(text, b"overbudget ")?;
+    append_number(text, budget)?;
     append_bytes(text, b"\n")
 }
 

@@ -7,5 +7,5 @@ mod record_lines;
 #[cfg(test)]
 mod tests;
 
-pub use hit_lines::{push_count, push_hit};
-pub use record_lines::{code_word, push_ok, push_records, push_refused};
+pub use hit_lines::{push_count, push_hit, push_overbudget};
+pub use record_lines::{code_word, push_ok, push_query_refused, push_records, push_refused};

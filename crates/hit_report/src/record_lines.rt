@@ -1,6 +1,6 @@
 // Lines of records and of refusals.
 ghost use Rattle.std.specs.Prelude.{◌≡◌, ℕ, ◌∷◌, ◌++◌, [], OnOk, OnErr};
-ghost use Rattle.hit_report.specs.RecordLines.{code_word, ok_line, records_line, refused_line, spaced};
+ghost use Rattle.hit_report.specs.RecordLines.{code_word, ok_line, query_refused_line, records_line, refusal_text, refused_line, spaced};
 ghost use Rattle.hit_report.specs.Appends.{KeepsFront};
 
 use crate::append::{append_bytes, append_name, append_number, kept_or_cut};
@@ -58,6 +58,16 @@ pub fn push_refused(text: &mut Vec<u8>, place: u32, line: u64, code: u8) -> Resu
     kept_or_cut(text, before, appended)
 }
 
+/// Appends the line of a query that was refused, `query refused LINE CODE WORD`. An `Err` leaves the text as it was.
+pub fn push_query_refused(text: &mut Vec<u8>, line: u64, code: u8) -> Result<(), OutOfMemory>
+    ensures ok { OnOk result (text.new.items ≡ text.old.items ++ query_refused_line line code) }
+    ensures err { OnErr result (text.new.items ≡ text.old.items) }
+{
+    let before = text.len();
+    let appended = append_query_refused(text, line, code);
+    kept_or_cut(text, before, appended)
+}
+
 /// Appends the line of the numbers of records, `records N ok K refused J`. An `Err` leaves the text as it was.
 pub fn push_records(
     text: &mut Vec<u8>,
@@ -100,11 +110,16 @@ fn append_refused(text: &mut Vec<u8>, place: u32, line: u64, code: u8) -> Result
 {
     append_bytes(text, b"refused")?;
     append_spaced(text, u64::from(place))?;
-    append_spaced(text, line)?;
-    append_spaced(text, u64::from(code))?;
-    append_bytes(text, b" ")?;
-    append_bytes(text, code_word(code))?;
-    append_bytes(text, b"\n")
+    append_refusal(text, line, code)
+}
+
+#[tactic(auto, using(crate::proofs::Fronts::front_trans), unfolding(crate::specs::RecordLines::query_refused_line))]
+fn append_query_refused(text: &mut Vec<u8>, line: u64, code: u8) -> Result<(), OutOfMemory>
+    ensures ok { OnOk result (text.new.items ≡ text.old.items ++ query_refused_line line code) }
+    ensures front { KeepsFront text.old.items text.new.items }
+{
+    append_bytes(text, b"query refused")?;
+    append_refusal(text, line, code)
 }
 
 #[tactic(auto, using(crate::proofs::Fronts::front_trans), unfolding(crate::specs::RecordLines::records_line))]
@@ -124,6 +139,19 @@ fn append_records(
     append_spaced(text, u64::from(accepted))?;
     append_bytes(text, b" refused")?;
     append_spaced(text, u64::from(refused))?;
+    append_bytes(text, b"\n")
+}
+
+// Where and why it is refused, and the end of the line.
+#[tactic(auto, using(crate::proofs::Fronts::front_trans), unfolding(crate::specs::RecordLines::refusal_text))]
+fn append_refusal(text: &mut Vec<u8>, line: u64, code: u8) -> Result<(), OutOfMemory>
+    ensures ok { OnOk result (text.new.items ≡ text.old.items ++ refusal_text line code) }
+    ensures front { KeepsFront text.old.items text.new.items }
+{
+    append_spaced(text, line)?;
+    append_spaced(text, u64::from(code))?;
+    append_bytes(text, b" ")?;
+    append_bytes(text, code_word(code))?;
     append_bytes(text, b"\n")
 }
 

@@ -1,5 +1,7 @@
 // The lines as they are printed.
-use crate::{push_count, push_hit, push_ok, push_records, push_refused};
+use crate::{
+    push_count, push_hit, push_ok, push_overbudget, push_query_refused, push_records, push_refused,
+};
 use std::test::Fail;
 
 #[test]
@@ -11,6 +13,20 @@ fn lines_are_appended(rt: HostRuntime) -> Result<(), Fail> {
     assert_eq!(rt;
         text.as_slice(),
         b"refused\nhit 12 3\nhit 4294967295 2,999,1 a b\nhits 2\n".as_slice()
+    );
+    Ok(())
+}
+
+#[test]
+fn lines_in_place_of_hits_are_appended(rt: HostRuntime) -> Result<(), Fail> {
+    let mut text = Vec::new(rt.alloc());
+    push_query_refused(&mut text, 4, 20)?;
+    push_query_refused(&mut text, 6, 21)?;
+    push_overbudget(&mut text, 18446744073709551615)?;
+    push_overbudget(&mut text, 0)?;
+    assert_eq!(rt;
+        text.as_slice(),
+        b"query refused 4 20 TooLarge\nquery refused 6 21 List\noverbudget 18446744073709551615\noverbudget 0\n".as_slice()
     );
     Ok(())
 }

@@ -1,3 +1,4 @@
 pub mod Chains
 pub mod Pairs
 pub mod Flags
+mod Examples

@@ -10,3 +10,8 @@ pub mod Embedding
 pub mod Cost
 pub mod History
 pub mod Hits
+pub mod Distances
+pub mod Codes
+pub mod Needs
+pub mod Screened
+pub mod Reply

@@ -1,5 +1,5 @@
 -- Marked molecules and queries: the flag of each bond says whether it is a ring bond.
-use Rattle.std.specs.Prelude.{◌≡◌, ◌↔◌, ℕ, Bool, false, Some, IsTrue, slice_get, slice_set, slice_index_or}
+use Rattle.std.specs.Prelude.{◌≡◌, ◌↔◌, ℕ, Bool, false, Some, IsTrue, map, slice_get, slice_set, slice_index_or}
 use Rattle.htss_defs.specs.declared.mol.Bond.{Bond}
 use Rattle.htss_defs.specs.declared.query.QueryBond.{QueryBond}
 use Rattle.htss_defs.specs.Graph.{IsRingBond}
@@ -9,6 +9,18 @@ use Rattle.htss_defs.specs.QueryGraph.{QueryGraph, query_shape}
 -- the bond without its flag
 abbrev pub unmarked : Bond → Bond
 unmarked b = record b { ring = false }
+
+-- the molecule without the flags of its bonds
+abbrev pub unmarked_molecule : Molecule → Molecule
+unmarked_molecule m = record { atoms = m.atoms; bonds = map unmarked m.bonds }
+
+-- the bond of a query without its flag
+abbrev pub unmarked_query_bond : QueryBond → QueryBond
+unmarked_query_bond b = record b { ring = false }
+
+-- the query without the flags of its bonds
+abbrev pub unmarked_query : QueryGraph → QueryGraph
+unmarked_query q = record { atoms = q.atoms; bonds = map unmarked_query_bond q.bonds }
 
 abbrev pub IsMarked : Molecule → Type 0
 IsMarked m =

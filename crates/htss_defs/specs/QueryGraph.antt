@@ -44,7 +44,3 @@ pub record IsQuery (q : QueryGraph) : Type 0 where
   pub each_atom : All IsQueryAtom q.atoms
   pub each_bond : All (IsQueryBond (length q.atoms)) q.bonds
   pub no_pair_twice : AllPairs AreQueryBondsApart q.bonds
-
--- no bond of the query asks for a ring or a chain
-abbrev pub AsksNoTopology : QueryGraph → Type 0
-AsksNoTopology q = All (λ b. b.topology ≡ 0) q.bonds

@@ -2,6 +2,7 @@ ghost use Rattle.std.specs.Prelude.{◌≡◌, ℕ, ◌≤◌, ◌↔◌, IsTrue
 ghost use Rattle.htss_defs.specs.QueryGraph.{IsAtomTest, IsQueryAtom, IsQueryBond, IsQuery};
 ghost use Rattle.htss_defs.specs.QueryGraph.{QueryGraph, AreQueryBondsApart, query_bond_ends};
 ghost use Rattle.htss_defs.specs.QueryGraph.{query_shape};
+ghost use Rattle.htss_defs.specs.Marked.{IsMarkedQuery};
 
 use crate::adjacency::Adjacency;
 use crate::graph::{Ends, are_ends};
@@ -30,7 +31,8 @@ pub struct QueryAtom {
     pub mass: u16,
 }
 
-/// A bond of a query: the type is 1 to 8, the topology 0 (either), 1 (ring) or 2 (chain).
+/// A bond of a query: the type is 1 to 8, the topology 0 (either), 1 (ring) or 2 (chain). The flag says whether it is a ring bond
+/// of the query.
 #[derive(Clone, Copy, Debug, PartialEq, Eq)]
 pub struct QueryBond {
     pub first: u16,
@@ -52,7 +54,7 @@ impl QueryBond {
     }
 }
 
-/// A query of 1 to 64 atoms and at most 999 bonds: contracts see its two lists.
+/// A query of 1 to 64 atoms and at most 999 bonds, each with its flag set where it is a ring bond: contracts see its two lists.
 #[derive(Debug, Drop)]
 pub struct Query {
     atoms: Vec<QueryAtom>,
@@ -64,12 +66,14 @@ impl Model for Query {
 
     ghost view = { λ q. record { atoms = q.atoms.items; bonds = q.bonds.items } };
 
-    ghost invariant = { λ q. IsQuery (record { atoms = q.atoms.items; bonds = q.bonds.items }) };
+    ghost invariant = { λ q. IsQuery (record { atoms = q.atoms.items; bonds = q.bonds.items })
+        × IsMarkedQuery (record { atoms = q.atoms.items; bonds = q.bonds.items }) };
 }
 
 impl Query {
     /// The query of these lists, or `None` exactly where they break a rule of queries. It takes no memory.
     pub fn new(atoms: Vec<QueryAtom>, bonds: Vec<QueryBond>) -> Option<Query>
+        requires marked { IsMarkedQuery (record { atoms = atoms.items; bonds = bonds.items }) }
         ensures valid { IsSome result ↔ IsQuery (record { atoms = atoms.items; bonds = bonds.items }) }
         ensures value { IfSome result (λ q. q ≡ record { atoms = atoms.items; bonds = bonds.items }) }
     {
@@ -92,6 +96,7 @@ impl Query {
     pub fn bonds(&self) -> &[QueryBond]
         ensures items { result.now ≡ self.now.bonds }
         ensures valid { IsQuery self.now }
+        ensures marked { IsMarkedQuery self.now }
     {
         &self.bonds
     }

@@ -4,8 +4,8 @@ use Rattle.std.specs.Prelude.{Option, Some, None}
 use Rattle.outside.specs.Files.{File, IsLarge}
 use Rattle.outside.specs.Causes.{Rose, IsAbsent}
 use Rattle.htss_main.specs.Tasks.{Task}
-use Rattle.htss_main.specs.Outcomes.{Outcome, done, not_a_command, out_of_memory, read_failed, file_absent, file_too_large, file_not_plain}
-use Rattle.htss_main.specs.Ends.{ShelfSeen, ShelfGoesOn, ComesToRead, IsNotPlain, IsTextOf, MayComeOut}
+use Rattle.htss_main.specs.Outcomes.{Outcome, done, not_a_command, out_of_memory, read_failed, file_absent, file_too_large}
+use Rattle.htss_main.specs.Ends.{ShelfSeen, ShelfGoesOn, ComesToRead, IsTextOf, MayComeOut}
 
 Rose-earlier : (before middle now : ℕ) → before ≤ middle → Rose middle now → Rose before now
 Rose-earlier before middle now le rose = omega arith
@@ -26,4 +26,3 @@ MayComeOut-earlier task before middle now (file_absent name) on may = (
 )
 MayComeOut-earlier task before middle now (file_too_large name) on may =
     (subst (λ (t : Option (List File)). ComesToRead t task name) on.told may.0, subst (λ (t : Option (List File)). IsLarge t name) on.told may.1)
-MayComeOut-earlier task before middle now (file_not_plain name) on may = subst (λ (t : Option (List File)). IsNotPlain t task name) on.told may

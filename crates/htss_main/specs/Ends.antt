@@ -1,13 +1,12 @@
 -- What a call of the program promises: an outcome with its cause, and the status and the bytes that it leaves.
-use Rattle.std.specs.Prelude.{◌≡◌, ◌⊎◌, ℕ, ◌≤◌, List, Option, None, Some}
+use Rattle.std.specs.Prelude.{◌≡◌, ◌⊎◌, ℕ, ◌≤◌, List, Option, None, Some, Ok}
 use Rattle.std.specs.Io.KnownBytes.{append_known}
 use Rattle.htss_defs.specs.QueryGraph.{QueryGraph}
-use Rattle.ctfile.specs.Plain.{IsPlainQuery}
-use Rattle.outside.specs.Files.{File, WasRead, IsLarge}
+use Rattle.outside.specs.Files.{File, IsLarge}
 use Rattle.outside.specs.Causes.{Rose, IsAbsent}
 use Rattle.outside.specs.Written.{GrewByFront}
 use Rattle.htss_main.specs.Tasks.{Task, check_of, find_in, task_of}
-use Rattle.htss_main.specs.Outcomes.{Outcome, done, not_a_command, out_of_memory, read_failed, file_absent, file_too_large, file_not_plain, status_of, text_of}
+use Rattle.htss_main.specs.Outcomes.{Outcome, done, not_a_command, out_of_memory, read_failed, file_absent, file_too_large, status_of, text_of}
 use Rattle.htss_main.specs.FindText.{IsCheckText, IsFindText, QueryWasRead}
 
 -- what a shelf tells and has counted at one moment
@@ -34,17 +33,11 @@ pub record ShelfGoesOn (before now : ShelfSeen) : Type 0 where
   pub absent : before.absent ≤ now.absent
   pub faults : before.faults ≤ now.faults
 
--- the task comes to read this file: of `find` the query first, and the SDfile where the query was read and is one
+-- the task comes to read this file: of `find` the query first, and the SDfile where the query was read and is not refused
 abbrev pub ComesToRead : Option (List File) → Task → List ℕ → Type 0
 ComesToRead told (find_in sdf query) name =
-    (name ≡ query) ⊎ ((name ≡ sdf) × (asked : QueryGraph) × QueryWasRead told query asked)
+    (name ≡ query) ⊎ ((name ≡ sdf) × (asked : QueryGraph) × QueryWasRead told query (Ok asked))
 ComesToRead told (check_of sdf) name = name ≡ sdf
-
--- the query of the task was read, and is not of the plain form
-abbrev pub IsNotPlain : Option (List File) → Task → List ℕ → Type 0
-IsNotPlain told (find_in sdf query) name =
-    (name ≡ query) × (bytes : List ℕ) × WasRead told query bytes × ((asked : QueryGraph) → IsPlainQuery bytes asked → ⊥)
-IsNotPlain told (check_of sdf) name = ⊥
 
 -- the text is one that the task may have
 abbrev pub IsTextOf : Option (List File) → Task → List ℕ → Type 0
@@ -61,7 +54,6 @@ MayComeOut (Some task) before now out_of_memory = Unit {0}
 MayComeOut (Some task) before now (read_failed name) = ComesToRead before.told task name × Rose before.faults now.faults
 MayComeOut (Some task) before now (file_absent name) = ComesToRead before.told task name × IsAbsent before.told name before.absent now.absent
 MayComeOut (Some task) before now (file_too_large name) = ComesToRead before.told task name × IsLarge before.told name
-MayComeOut (Some task) before now (file_not_plain name) = IsNotPlain before.told task name
 
 -- the text was written and the status answered; or a write failed, and a front of the text was written
 abbrev pub IsWritten : SinkSeen → SinkSeen → Outcome → ℕ → Type 0

@@ -4,7 +4,7 @@ use lib.Chars.{codes}
 use Rattle.outside.specs.declared.whole.ReadStop.{ReadStop}
 use Rattle.outside.specs.declared.whole.ReadStop.TheVariants.{Absent as IsGone, Failed as HasFailed, TooLarge as IsTooLarge, OutOfMemory}
 use Rattle.htss_main.specs.declared.stop.Stop.{Stop}
-use Rattle.htss_main.specs.declared.stop.Stop.TheVariants.{Usage, Memory, Failed, Absent, TooLarge, NotPlain}
+use Rattle.htss_main.specs.declared.stop.Stop.TheVariants.{Usage, Memory, Failed, Absent, TooLarge}
 
 pub data Outcome : Type 0 where
   done : (text : List ℕ) → Outcome
@@ -13,7 +13,6 @@ pub data Outcome : Type 0 where
   read_failed : (name : List ℕ) → Outcome
   file_absent : (name : List ℕ) → Outcome
   file_too_large : (name : List ℕ) → Outcome
-  file_not_plain : (name : List ℕ) → Outcome
 
 abbrev pub status_of : Outcome → ℕ
 status_of (done text) = 0
@@ -22,7 +21,6 @@ status_of (read_failed name) = 4
 status_of out_of_memory = 6
 status_of (file_absent name) = 7
 status_of (file_too_large name) = 8
-status_of (file_not_plain name) = 9
 
 abbrev pub line : List ℕ → List ℕ
 line text = text ++ 10 ∷ []
@@ -35,7 +33,6 @@ text_of (read_failed name) = line (codes "stop 4 read " ++ name)
 text_of out_of_memory = line (codes "stop 6 memory")
 text_of (file_absent name) = line (codes "stop 7 absent " ++ name)
 text_of (file_too_large name) = line (codes "stop 8 large " ++ name)
-text_of (file_not_plain name) = line (codes "stop 9 notyet " ++ name)
 
 -- the outcome of a stop of the code
 abbrev pub stop_outcome : Stop → Outcome
@@ -44,7 +41,6 @@ stop_outcome Memory = out_of_memory
 stop_outcome (Failed name) = read_failed name.now
 stop_outcome (Absent name) = file_absent name.now
 stop_outcome (TooLarge name) = file_too_large name.now
-stop_outcome (NotPlain name) = file_not_plain name.now
 
 -- the outcome of a stop of reading
 abbrev pub read_outcome : ReadStop → List ℕ → Outcome

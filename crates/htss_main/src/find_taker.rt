@@ -1,6 +1,5 @@
 // `find`: the lines of the refused records and of the hits among the others.
 ghost use Rattle.std.specs.Prelude.{◌≡◌, ◌≤◌, ℕ, List, [], Some, ◌++◌, IfOk};
-ghost use Rattle.htss_defs.specs.QueryGraph.{AsksNoTopology};
 ghost use Rattle.mol_section.specs.SectionRecord.{Outcome};
 ghost use Rattle.htss_main.specs.RecordTexts.{accepted_records, refused_lines};
 ghost use Rattle.htss_main.specs.FindText.{IsHitsText};
@@ -25,7 +24,6 @@ pub struct FindTaker<'a> {
     place: u32,
     ghost counted: { count ≤ number },
     ghost numbered: { number ≤ place },
-    ghost topology: { AsksNoTopology matcher },
 }
 
 impl<'a> FindTaker<'a> {
@@ -33,7 +31,6 @@ impl<'a> FindTaker<'a> {
 
     /// No record was taken.
     pub fn new(alloc: Global, query: &'a Query) -> FindTaker<'a>
-        requires { AsksNoTopology query.now }
         ensures holds { FindHolds query.now result.refused.items result.hits.items result.count result.number [] }
         ensures asked { result.matcher ≡ query.now }
         ensures place { result.place ≡ 0 }

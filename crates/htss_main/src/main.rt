@@ -7,6 +7,8 @@ mod check_taker;
 mod check_tests;
 mod find_taker;
 mod list;
+#[cfg(test)]
+mod query_tests;
 mod stop;
 mod taker;
 #[cfg(test)]

@@ -20,8 +20,6 @@ pub enum Stop<'a> {
     Absent(&'a str),
     /// The file has more bytes than a file may have.
     TooLarge(&'a str),
-    /// The query is not of the plain form.
-    NotPlain(&'a str),
 }
 
 /// Why a read of the file with this name stopped.
@@ -36,7 +34,7 @@ pub fn read_stop(stop: ReadStop, name: &str) -> Stop<'_>
     }
 }
 
-/// The status of a stop: 2, 4, 6, 7, 8 or 9.
+/// The status of a stop: 2, 4, 6, 7 or 8.
 pub fn status(stop: Stop<'_>) -> u8
     ensures { result ≡ status_of (stop_outcome stop.entry) }
 {
@@ -46,7 +44,6 @@ pub fn status(stop: Stop<'_>) -> u8
         Stop::Memory => 6,
         Stop::Absent(_) => 7,
         Stop::TooLarge(_) => 8,
-        Stop::NotPlain(_) => 9,
     }
 }
 
@@ -65,7 +62,6 @@ pub fn write_stop<K: Sink>(out: &mut K, stop: Stop<'_>) -> Result<(), Failed>
         Stop::Failed(name) => write_named(out, b"stop 4 read ", name),
         Stop::Absent(name) => write_named(out, b"stop 7 absent ", name),
         Stop::TooLarge(name) => write_named(out, b"stop 8 large ", name),
-        Stop::NotPlain(name) => write_named(out, b"stop 9 notyet ", name),
     }
 }
 

@@ -1,5 +1,6 @@
 // What takes the records of a file, one after the other.
 ghost use Rattle.std.specs.Prelude.{◌≡◌, ℕ, ◌+◌, ◌++◌, ◌∷◌, [], List, Option, length, OnOk};
+ghost use Rattle.htss_defs.specs.Marked.{IsMarked};
 ghost use Rattle.htss_defs.specs.QueryGraph.{QueryGraph};
 ghost use Rattle.mol_section.specs.SectionRecord.{Outcome, accepted, refused};
 
@@ -18,7 +19,8 @@ pub trait Taker {
 
     /// Takes a record that is accepted.
     fn accept(&mut self, place: u32, name: &Name, mol: &Mol) -> Result<(), OutOfMemory>
-        requires { place ≡ taken self.old + 1 }
+        requires next { place ≡ taken self.old + 1 }
+        requires marked { IsMarked mol.now }
         ensures holds { OnOk result ((outcomes : List Outcome) → length outcomes ≡ taken self.old
             → holds self.old outcomes
             → holds self.new (outcomes ++ accepted name.now mol.now ∷ [])) }

@@ -102,8 +102,8 @@ fn each_command_line_has_its_status_and_text(rt: HostRuntime) -> Result<(), Fail
         ),
         command(
             &["find", "none.sdf", "blank.sdf"],
-            9,
-            "stop 9 notyet blank.sdf\n",
+            0,
+            "query refused 3 12 NoEnd\n",
         ),
         command(
             &["find", "none.sdf", "co.mol"],

@@ -1,24 +1,25 @@
 // The top call without a runtime.
 ghost use Rattle.std.specs.Prelude.{◌≡◌, ℕ, ◌≤◌, List, map, length, Some, IfOk, IfErr, OnOk, OnErr, string_bytes};
-ghost use Rattle.htss_defs.specs.QueryGraph.{QueryGraph, AsksNoTopology};
-ghost use Rattle.htss_main.specs.Tasks.{check_of, find_in, task_of};
+ghost use Rattle.htss_main.specs.Tasks.{Task, check_of, find_in, task_of};
 ghost use Rattle.htss_main.specs.Outcomes.{done, stop_outcome};
-ghost use Rattle.htss_main.specs.FindText.{IsCheckText, IsFindText, QueryWasRead};
-ghost use Rattle.htss_main.specs.Ends.{Ends, IsWritten, MayComeOut, ShelfGoesOn, seen, seen_out};
+ghost use Rattle.htss_main.specs.FindText.{IsCheckText, IsFindText, IsFoundIn, QueryWasRead};
+ghost use Rattle.hit_report.specs.RecordLines.{query_refused_line};
+ghost use Rattle.htss_main.specs.Ends.{ComesToRead, Ends, IsWritten, MayComeOut, ShelfGoesOn, seen, seen_out};
 
 use crate::check_taker::CheckTaker;
 use crate::find_taker::FindTaker;
 use crate::list::read_list;
 use crate::stop::{Stop, read_stop, status, write_stop};
 use crate::words::{Command, read_words};
-use ctfile::{NotYet, plain_query};
+use hit_report::push_query_refused;
 use htss_defs::{OutOfMemory, Query};
 use outside::{Failed, Shelf, Sink, read_whole, write_whole};
+use query_mol::{QueryRefusal, read_query};
 use std::alloc::Global;
 
 /// Does what the words after the program's name say, and answers the status:
 /// 0, or 2 where they are no command line, 4 where a read failed, 5 where a write failed, 6 where memory ran out,
-/// 7 where a file is absent, 8 where it is too large, 9 where the query is not of the plain form.
+/// 7 where a file is absent, 8 where it is too large.
 pub fn htss_tool<F: Shelf, K: Sink>(
     alloc: Global,
     words: &[String],
@@ -92,8 +93,28 @@ fn find<'a, F: Shelf>(
     ensures goes_on { ShelfGoesOn
         (seen F.told F.absent F.faults shelf.old) (seen F.told F.absent F.faults shelf.new) }
 {
-    let asked = read_query(alloc, query, shelf)?;
-    let mut taker = FindTaker::new(alloc, &asked);
+    match read_asked(alloc, query, shelf)? {
+        Ok(asked) => find_hits(alloc, sdf, &asked, shelf),
+        Err(refusal) => refused_text(alloc, refusal),
+    }
+}
+
+// The lines of the refused records, and of the hits among the others.
+fn find_hits<'a, F: Shelf>(
+    alloc: Global,
+    sdf: &'a str,
+    asked: &Query,
+    shelf: &mut F,
+) -> Result<Vec<u8>, Stop<'a>>
+    ensures text { IfOk result (λ text. IsFoundIn (F.told shelf.old) sdf.now asked.now text.items) }
+    ensures stop { IfErr result (λ stop. (task : Task) → ComesToRead (F.told shelf.old) task sdf.now
+        → MayComeOut (Some task)
+        (seen F.told F.absent F.faults shelf.old) (seen F.told F.absent F.faults shelf.new)
+        (stop_outcome stop)) }
+    ensures goes_on { ShelfGoesOn
+        (seen F.told F.absent F.faults shelf.old) (seen F.told F.absent F.faults shelf.new) }
+{
+    let mut taker = FindTaker::new(alloc, asked);
     read_list(alloc, sdf, shelf, &mut taker)?;
     match taker.text() {
         Ok(text) => Ok(text),
@@ -118,10 +139,25 @@ fn check<'a, F: Shelf>(alloc: Global, sdf: &'a str, shelf: &mut F) -> Result<Vec
     }
 }
 
-// The query of the file with this name.
-fn read_query<'a, F: Shelf>(alloc: Global, name: &'a str, shelf: &mut F) -> Result<Query, Stop<'a>>
-    ensures read { IfOk result (λ asked. QueryWasRead (F.told shelf.old) name.now asked) }
-    ensures topology { IfOk result (λ asked. AsksNoTopology asked) }
+// The line of a query that is refused.
+fn refused_text<'a>(alloc: Global, refusal: QueryRefusal) -> Result<Vec<u8>, Stop<'a>>
+    ensures text { IfOk result (λ text. text.items ≡ query_refused_line refusal.line refusal.code) }
+    ensures memory { IfErr result (λ stop. stop ≡ Stop.Memory) }
+{
+    let mut text = Vec::new(alloc);
+    match push_query_refused(&mut text, refusal.line, refusal.code) {
+        Ok(()) => Ok(text),
+        Err(OutOfMemory) => Err(Stop::Memory),
+    }
+}
+
+// The query of the file with this name, or where it is refused.
+fn read_asked<'a, F: Shelf>(
+    alloc: Global,
+    name: &'a str,
+    shelf: &mut F,
+) -> Result<Result<Query, QueryRefusal>, Stop<'a>>
+    ensures read { IfOk result (λ outcome. QueryWasRead (F.told shelf.old) name.now outcome) }
     ensures stop { IfErr result (λ stop. (sdf : List ℕ) → MayComeOut (Some (find_in sdf name.now))
         (seen F.told F.absent F.faults shelf.old) (seen F.told F.absent F.faults shelf.new)
         (stop_outcome stop)) }
@@ -132,9 +168,8 @@ fn read_query<'a, F: Shelf>(alloc: Global, name: &'a str, shelf: &mut F) -> Resu
         Ok(bytes) => bytes,
         Err(stop) => return Err(read_stop(stop, name)),
     };
-    match plain_query(alloc, &bytes) {
-        Ok(Ok(query)) => Ok(query),
-        Ok(Err(NotYet)) => Err(Stop::NotPlain(name)),
+    match read_query(alloc, &bytes) {
+        Ok(outcome) => Ok(outcome),
         Err(OutOfMemory) => Err(Stop::Memory),
     }
 }

@@ -15,13 +15,13 @@ use Rattle.mol_section.specs.SectionLines.{Kind, header, atom, bond, atom_list, 
 use Rattle.mol_section.specs.SectionRecord.{kind_is, bond_of, atom_of}
 use Rattle.mol_section.specs.AtomLines.{SaysAtom}
 use Rattle.mol_section.specs.BondLines.{SaysBond, graph_refusal, is_taken}
-use Rattle.mol_section.specs.Walk.{IsLineFault, IsStop, IsPassed, IsDraft, AtHeader, AtAtoms, AtBonds, AtLists, kinds_left, to_atoms, to_bonds, to_lists, made_atoms}
+use Rattle.mol_section.specs.Walk.{IsLineFault, IsStop, IsPassed, IsDraft, IsGraphOf, AtHeader, AtAtoms, AtBonds, AtLists, kinds_left, to_atoms, to_bonds, to_lists, made_atoms}
 use Rattle.mol_section.proofs.Passing.{current, one_of, pass, stops, fits, too_long, runs_out}
 use Rattle.mol_section.proofs.Made.{numbered-push}
 
 -- ---- a line that is missing or too long
 
-none_left : (todo : List Kind) → kinds_left todo [] ≡ []
+pub none_left : (todo : List Kind) → kinds_left todo [] ≡ []
 none_left todo = ap (kinds_after false) (drop_all (length todo) [] (omega arith))
 
 pub block_fault : {lines atoms bonds properties : List (List ℕ)} {n code : ℕ} (rest : List (List ℕ)) (kind : Kind) (todo : List Kind)
@@ -82,7 +82,7 @@ AtCounts-refused lines all rest line n code is place short refused at =
     go : AtHeader lines 3 (line ∷ rest) → IsStop lines 3 code
     go at = stops at.passed (fits (line_at lines 3) (counts_refusal (line_at lines 3)) (short_here at.passed short) ∙ ap counts_refusal (current at.passed) ∙ refused)
 
-todo_of : ℕ → ℕ → ℕ → List Kind
+unfoldable pub todo_of : ℕ → ℕ → ℕ → List Kind
 todo_of a b l = replicate a atom ++ replicate b bond ++ replicate l atom_list
 
 pub AtCounts-line : (lines all rest : List (List ℕ)) (line : List ℕ) (n : ℕ) (sizes : Counts) (atoms : List Atom) (bonds : List Bond) → all ≡ line ∷ rest → n ≡ 3 → length line ≤ 4096
@@ -125,7 +125,7 @@ AtCounts-line lines all rest line n sizes atoms bonds is place short accepted fa
 
 -- ---- atom lines
 
-one_atom_more : (sizes : Counts) (i : ℕ) → i < sizes.atoms → to_atoms sizes i ≡ atom ∷ to_atoms sizes (i + 1)
+pub one_atom_more : (sizes : Counts) (i : ℕ) → i < sizes.atoms → to_atoms sizes i ≡ atom ∷ to_atoms sizes (i + 1)
 one_atom_more sizes i lt =
     let k : sizes.atoms - i ≡ suc (sizes.atoms - (i + 1)) = omega arith in
     ap (λ (n : ℕ). replicate n atom ++ replicate sizes.bonds bond ++ replicate sizes.lists atom_list) k
@@ -189,7 +189,7 @@ AtAtoms-fault lines rest sizes n i code atoms bonds lt at fault =
 
 -- ---- bond lines
 
-bonds_start : (lines : List (List ℕ)) (n a : ℕ) → n ≡ 4 + a → atom_count lines ≡ a → bond_lines_before lines n ≡ []
+pub bonds_start : (lines : List (List ℕ)) (n a : ℕ) → n ≡ 4 + a → atom_count lines ≡ a → bond_lines_before lines n ≡ []
 bonds_start lines n a place size =
     let k : n - (4 + atom_count lines) ≡ 0 = omega arith in
     ap (λ (m : ℕ). take m (drop (4 + atom_count lines) lines)) k
@@ -227,7 +227,7 @@ AtBonds-start lines rest sizes n i atoms bonds done at =
       before = bonds_start lines n sizes.atoms (omega (arith, at.place)) d.size_is ∙ sym none;
     }
 
-one_bond_more : (sizes : Counts) (i : ℕ) → i < sizes.bonds → to_bonds sizes i ≡ bond ∷ to_bonds sizes (i + 1)
+pub one_bond_more : (sizes : Counts) (i : ℕ) → i < sizes.bonds → to_bonds sizes i ≡ bond ∷ to_bonds sizes (i + 1)
 one_bond_more sizes i lt =
     let k : sizes.bonds - i ≡ suc (sizes.bonds - (i + 1)) = omega arith in
     ap (λ (n : ℕ). replicate n bond ++ replicate sizes.lists atom_list) k
@@ -236,7 +236,7 @@ left_bonds : {lines rest atoms bonds properties : List (List ℕ)} {n : ℕ} (si
     → IsPassed lines n rest (kinds_left (bond ∷ to_bonds sizes (i + 1)) rest) atoms bonds properties
 left_bonds {lines} {rest} {atoms} {bonds} {properties} {n} sizes i lt p = subst (λ (x : List Kind). IsPassed lines n rest (kinds_left x rest) atoms bonds properties) (one_bond_more sizes i lt) p
 
-list_any-map : {X Y : Type 0} (p : Y → Bool) (f : X → Y) (xs : List X) → list_any p (map f xs) ≡ list_any (λ x. p (f x)) xs
+pub list_any-map : {X Y : Type 0} (p : Y → Bool) (f : X → Y) (xs : List X) → list_any p (map f xs) ≡ list_any (λ x. p (f x)) xs
 list_any-map p f [] = refl
 list_any-map p f (x ∷ xs) = ap (λ (b : Bool). p (f x) || b) (list_any-map p f xs)
 
@@ -250,11 +250,6 @@ graph_refusal-lines graph earlier line are =
 ends_are : (lines : List (List ℕ)) → map bond_ends (map bond_of lines) ≡ map ends_of lines
 ends_are [] = refl
 ends_are (line ∷ lines) = ap (λ (x : List Ends). ends_of line ∷ x) (ends_are lines)
-
--- the graph of the bonds that were read
-pub record IsGraphOf (graph : Graph) (size : ℕ) (bonds : List Bond) : Type 0 where
-  pub atoms : graph.atoms ≡ size
-  pub bonds_are : graph.bonds ≡ map bond_ends bonds
 
 bond_refusal_is : (lines : List (List ℕ)) (n size : ℕ) (line : List ℕ) (earlier : List (List ℕ)) (bonds : List Bond) (graph : Graph) (code : Option ℕ)
     → line_at lines n ≡ line → length line ≤ 4096 → atom_count lines ≡ size → bond_lines_before lines n ≡ earlier → bonds ≡ map bond_of earlier → IsGraphOf graph size bonds
@@ -381,7 +376,7 @@ AtLists-start lines rest sizes n i atoms bonds done at =
       all_bonds = at.count ∙ sym done;
     }
 
-one_list_more : (sizes : Counts) (i : ℕ) → i < sizes.lists → to_lists sizes i ≡ atom_list ∷ to_lists sizes (i + 1)
+pub one_list_more : (sizes : Counts) (i : ℕ) → i < sizes.lists → to_lists sizes i ≡ atom_list ∷ to_lists sizes (i + 1)
 one_list_more sizes i lt =
     let k : sizes.lists - i ≡ suc (sizes.lists - (i + 1)) = omega arith in
     ap (λ (n : ℕ). replicate n atom_list) k

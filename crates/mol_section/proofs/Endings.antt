@@ -4,20 +4,23 @@ use Rattle.std.specs.Prelude.{Option, Some, None, slice_get, unwrap_or, if◌the
 use Rattle.std.proofs.lemmas.Bool.{cases_Bool}
 use Rattle.std.proofs.lemmas.List.{append-nil, take_at}
 use lib.Chars.{codes}
+use Rattle.htss_defs.specs.declared.graph.Ends.{Ends}
 use Rattle.htss_defs.specs.declared.mol.Atom.{Atom}
 use Rattle.htss_defs.specs.declared.mol.Bond.{Bond}
-use Rattle.htss_defs.specs.Molecule.{Molecule, IsMolecule, IsAtom, IsBond}
+use Rattle.htss_defs.specs.Graph.{Graph}
+use Rattle.htss_defs.specs.Molecule.{Molecule, IsMolecule, IsAtom, IsBond, molecule_graph}
+use Rattle.htss_defs.specs.Marked.{IsMarked, unmarked, unmarked_molecule}
 use Rattle.mol_section.specs.declared.counts.Counts.{Counts}
 use Rattle.mol_section.specs.Fields.{begins}
 use Rattle.mol_section.specs.SectionLines.{Kind, atom, bond, atom_list, property, passed_over, end_mark, after_end, kinds_after, passes_next, line_at, refusal, property_refusal, atom_count}
 use Rattle.mol_section.specs.SectionRecord.{IsAccepted, name_of, lines_of_kind, atom_of, bond_of, sets_charges_aside}
 use Rattle.mol_section.specs.PropertyLines.{is_end, step_refusal, next_state, with_property, sets_aside}
-use Rattle.mol_section.specs.Walk.{IsLineFault, IsStop, IsDraft, AtLists, AtProperties, IsRead, kinds_left, to_lists, made_atoms}
+use Rattle.mol_section.specs.Walk.{IsLineFault, IsStop, IsDraft, IsGraphOf, AtLists, AtProperties, IsRead, kinds_left, to_lists, made_atoms}
 use Rattle.mol_section.proofs.Passing.{current, pass, stops, fits, too_long, runs_out, whole}
 use Rattle.mol_section.proofs.BlockLines.{skipped, left_same, short_here}
 use Rattle.mol_section.proofs.Made.{made_atoms-push, aside-push, length-made}
 
-take_nil : {X : Type 0} (n : ℕ) → take n (let none : List X = [] in none) ≡ []
+pub take_nil : {X : Type 0} (n : ℕ) → take n (let none : List X = [] in none) ≡ []
 take_nil zero = refl
 take_nil (suc n) = refl
 
@@ -29,17 +32,17 @@ AtProperties-start lines rest sizes n i atoms bonds done at =
     ap (λ (k : ℕ). kinds_left (replicate k atom_list) rest) l ∙ ap (λ (x : List Kind). x ++ kinds_after false rest) (take_nil (length rest)) in
     record { draft = left_same _ _ left at.draft; all_atoms = at.all_atoms; all_bonds = at.all_bonds }
 
-nothing_after : (passing : Bool) → kinds_after passing [] ≡ []
+pub nothing_after : (passing : Bool) → kinds_after passing [] ≡ []
 nothing_after true = refl
 nothing_after false = refl
 
-property_kinds : (line : List ℕ) (rest : List (List ℕ)) → begins line (codes "M  END") ≡ false → passes_next line ≡ false → kinds_after false (line ∷ rest) ≡ property ∷ kinds_after false rest
+pub property_kinds : (line : List ℕ) (rest : List (List ℕ)) → begins line (codes "M  END") ≡ false → passes_next line ≡ false → kinds_after false (line ∷ rest) ≡ property ∷ kinds_after false rest
 property_kinds line rest other plain = rw (other, plain) refl
 
-passing_kinds : (line : List ℕ) (rest : List (List ℕ)) → begins line (codes "M  END") ≡ false → passes_next line ≡ true → kinds_after false (line ∷ rest) ≡ passed_over ∷ kinds_after true rest
+pub passing_kinds : (line : List ℕ) (rest : List (List ℕ)) → begins line (codes "M  END") ≡ false → passes_next line ≡ true → kinds_after false (line ∷ rest) ≡ passed_over ∷ kinds_after true rest
 passing_kinds line rest other next = rw (other, next) refl
 
-end_kinds : (line : List ℕ) (rest : List (List ℕ)) → begins line (codes "M  END") ≡ true → kinds_after false (line ∷ rest) ≡ end_mark ∷ map (λ _. after_end) rest
+pub end_kinds : (line : List ℕ) (rest : List (List ℕ)) → begins line (codes "M  END") ≡ true → kinds_after false (line ∷ rest) ≡ end_mark ∷ map (λ _. after_end) rest
 end_kinds line rest ends = rw ends refl
 
 -- ---- a line that is missing or too long
@@ -192,12 +195,24 @@ IsMolecule-read lines sizes atoms bonds some few few_bonds r = record {
   no_pair_twice = r.apart;
 }
 
+-- the graph of the bonds that were read is that of the molecule
+pub molecule_graph-read : (lines : List (List ℕ)) (sizes : Counts) (atoms : List Atom) (bonds : List Bond) (graph : Graph) → IsGraphOf graph sizes.atoms bonds
+    → IsRead lines sizes atoms bonds → graph ≡ molecule_graph (record { atoms = atoms; bonds = bonds })
+molecule_graph-read lines sizes atoms bonds graph of r =
+    ap (λ (n : ℕ). record { atoms = n; bonds = graph.bonds }) (of.atoms ∙ sym r.all_atoms)
+    ∙ ap (λ (es : List Ends). record { atoms = length atoms; bonds = es }) of.bonds_are
+
 abbrev built : ℕ → List (List ℕ) → List (List ℕ) → List (List ℕ) → Molecule
 built size properties atom_lines bond_lines = record { atoms = made_atoms size properties atom_lines; bonds = map bond_of bond_lines }
 
-pub IsAccepted-read : (lines : List (List ℕ)) (sizes : Counts) (atoms : List Atom) (bonds : List Bond) (first name : List ℕ) → slice_get lines 0 ≡ Some first → name ≡ name_of first
-    → IsRead lines sizes atoms bonds → IsAccepted lines name (record { atoms = atoms; bonds = bonds })
-IsAccepted-read lines sizes atoms bonds first name first-is name-is r = record {
+-- what bond lines say is not marked
+unmarked-read : (lines : List (List ℕ)) → map unmarked (map bond_of lines) ≡ map bond_of lines
+unmarked-read [] = refl
+unmarked-read (line ∷ lines) = ap (λ (bs : List Bond). bond_of line ∷ bs) (unmarked-read lines)
+
+pub IsAccepted-read : (lines : List (List ℕ)) (sizes : Counts) (atoms : List Atom) (bonds : List Bond) (first name : List ℕ) (mol : Molecule) → slice_get lines 0 ≡ Some first → name ≡ name_of first
+    → IsRead lines sizes atoms bonds → mol.atoms ≡ atoms → map unmarked mol.bonds ≡ map unmarked bonds → IsMarked mol → IsAccepted lines name mol
+IsAccepted-read lines sizes atoms bonds first name mol first-is name-is r atoms-are bonds-are marks = record {
   passes = r.whole.passes;
   ends = r.whole.ends;
   name_is = name-is ∙ sym (ap (λ (o : Option (List ℕ)). name_of (unwrap_or o [])) first-is);
@@ -205,10 +220,15 @@ IsAccepted-read lines sizes atoms bonds first name first-is name-is r = record {
       ∙ ap (λ (x : List (List ℕ)). built sizes.atoms x (lines_of_kind atom lines) (lines_of_kind bond lines)) r.whole.properties_are
       ∙ ap (λ (x : List (List ℕ)). built sizes.atoms r.properties x (lines_of_kind bond lines)) r.whole.atoms_are
       ∙ ap (built sizes.atoms r.properties r.atom_lines) r.whole.bonds_are);
+  marked = marks;
 }
   where
-    are : ◌≡◌ {A = Molecule} (record { atoms = atoms; bonds = bonds }) (built sizes.atoms r.properties r.atom_lines r.bond_lines)
-    are = ap (λ (x : List Atom). record { atoms = x; bonds = bonds }) r.atoms_are ∙ ap (λ (x : List Bond). record { atoms = made_atoms sizes.atoms r.properties r.atom_lines; bonds = x }) r.bonds_are
+    plain : map unmarked mol.bonds ≡ map bond_of r.bond_lines
+    plain = bonds-are ∙ ap (map unmarked) r.bonds_are ∙ unmarked-read r.bond_lines
+
+    are : unmarked_molecule mol ≡ built sizes.atoms r.properties r.atom_lines r.bond_lines
+    are = ap (λ (x : List Atom). record { atoms = x; bonds = map unmarked mol.bonds }) (atoms-are ∙ r.atoms_are)
+        ∙ ap (λ (x : List Bond). record { atoms = made_atoms sizes.atoms r.properties r.atom_lines; bonds = x }) plain
 
 -- a slice that was lent from a vector, written back
 pub written : (new items lent : List Atom) (len : ℕ) → lent ≡ items → length new ≡ length lent → length items ≡ len → take len (new ++ drop (length new) items) ≡ new

@@ -11,14 +11,14 @@ use Rattle.mol_section.specs.SectionRecord.{AcceptsLines, LineRefusal, kind_is, 
 use Rattle.mol_section.specs.Walk.{IsStop, IsPassed, IsWhole, picked}
 
 -- a value at the front of what follows
-at_end : {X : Type 0} (xs : List X) (x : X) (ys : List X) (n : ℕ) → length xs ≡ n → slice_get (xs ++ x ∷ ys) n ≡ Some x
+pub at_end : {X : Type 0} (xs : List X) (x : X) (ys : List X) (n : ℕ) → length xs ≡ n → slice_get (xs ++ x ∷ ys) n ≡ Some x
 at_end [] x ys zero long = refl
 at_end [] x ys (suc n) long = absurd (omega arith)
 at_end (z ∷ xs) x ys zero long = absurd (omega arith)
 at_end (z ∷ xs) x ys (suc n) long = at_end xs x ys n (omega arith)
 
 -- a value further on
-past_end : {X : Type 0} (xs ys : List X) (n i : ℕ) → length xs ≡ n → n ≤ i → slice_get (xs ++ ys) i ≡ slice_get ys (i - n)
+pub past_end : {X : Type 0} (xs ys : List X) (n i : ℕ) → length xs ≡ n → n ≤ i → slice_get (xs ++ ys) i ≡ slice_get ys (i - n)
 past_end [] ys zero i long le = let k : i - 0 ≡ i = omega arith in ap (slice_get ys) (sym k)
 past_end [] ys (suc n) i long le = absurd (omega arith)
 past_end (z ∷ xs) ys zero i long le = absurd (omega arith)
@@ -27,7 +27,7 @@ past_end (z ∷ xs) ys (suc n) (suc i) long le =
     let k : suc i - suc n ≡ i - n = omega arith in
     past_end xs ys n i (omega arith) (omega arith) ∙ ap (slice_get ys) (sym k)
 
-in_front : {X : Type 0} (xs ys : List X) (i : ℕ) → i < length xs → slice_get (xs ++ ys) i ≡ slice_get xs i
+pub in_front : {X : Type 0} (xs ys : List X) (i : ℕ) → i < length xs → slice_get (xs ++ ys) i ≡ slice_get xs i
 in_front [] ys i lt = absurd (omega arith)
 in_front (x ∷ xs) ys zero lt = refl
 in_front (x ∷ xs) ys (suc i) lt = in_front xs ys i (omega arith)
@@ -37,14 +37,14 @@ within_get [] i x e = absurd cc
 within_get (y ∷ xs) zero x e = omega arith
 within_get (y ∷ xs) (suc i) x e = let more = within_get xs i x e in omega arith
 
-zip_push : {X Y : Type 0} (xs : List X) (ys : List Y) (x : X) (y : Y) (n : ℕ) → length xs ≡ n → length ys ≡ n → zip (xs ++ x ∷ []) (ys ++ y ∷ []) ≡ zip xs ys ++ (x, y) ∷ []
+pub zip_push : {X Y : Type 0} (xs : List X) (ys : List Y) (x : X) (y : Y) (n : ℕ) → length xs ≡ n → length ys ≡ n → zip (xs ++ x ∷ []) (ys ++ y ∷ []) ≡ zip xs ys ++ (x, y) ∷ []
 zip_push [] [] x y n lx ly = refl
 zip_push [] (b ∷ ys) x y n lx ly = absurd (omega arith)
 zip_push (a ∷ xs) [] x y n lx ly = absurd (omega arith)
 zip_push {X} {Y} (a ∷ xs) (b ∷ ys) x y zero lx ly = absurd (omega arith)
 zip_push {X} {Y} (a ∷ xs) (b ∷ ys) x y (suc n) lx ly = ap (λ (z : List (X × Y)). (a, b) ∷ z) (zip_push xs ys x y n (omega arith) (omega arith))
 
-zip_front : {X Y : Type 0} (xs xs' : List X) (ys ys' : List Y) (n : ℕ) → length xs ≡ n → length ys ≡ n → zip (xs ++ xs') (ys ++ ys') ≡ zip xs ys ++ zip xs' ys'
+pub zip_front : {X Y : Type 0} (xs xs' : List X) (ys ys' : List Y) (n : ℕ) → length xs ≡ n → length ys ≡ n → zip (xs ++ xs') (ys ++ ys') ≡ zip xs ys ++ zip xs' ys'
 zip_front [] xs' [] ys' n lx ly = refl
 zip_front [] xs' (b ∷ ys) ys' n lx ly = absurd (omega arith)
 zip_front (a ∷ xs) xs' [] ys' n lx ly = absurd (omega arith)
@@ -57,7 +57,7 @@ pick kind (line, is) = if kind_is kind is then Some line else None
 abbrev pub one_of : Kind → Kind → List ℕ → List (List ℕ)
 one_of kind is line = picked kind (line ∷ []) (is ∷ [])
 
-picked_push : (kind : Kind) (front : List (List ℕ)) (kinds : List Kind) (line : List ℕ) (is : Kind) (n : ℕ) → length front ≡ n → length kinds ≡ n
+pub picked_push : (kind : Kind) (front : List (List ℕ)) (kinds : List Kind) (line : List ℕ) (is : Kind) (n : ℕ) → length front ≡ n → length kinds ≡ n
     → picked kind (front ++ line ∷ []) (kinds ++ is ∷ []) ≡ picked kind front kinds ++ one_of kind is line
 picked_push kind front kinds line is n lf lk =
     ap (filter_map (pick kind)) (zip_push front kinds line is n lf lk) ∙ filter_map-append (pick kind) (zip front kinds) ((line, is) ∷ [])
@@ -76,7 +76,7 @@ accepts_more lines n before here i lt = go (cases_eq i n)
     go (inl same) = subst (λ (k : ℕ). LineRefusal lines k None) (sym same) here
     go (inr other) = before i (omega arith)
 
-no_end_more : (kinds : List Kind) (kind : Kind) (n : ℕ) → length kinds ≡ n → kind_is end_mark kind ≡ false → ((i : ℕ) → slice_get kinds i ≡ Some end_mark → ⊥)
+pub no_end_more : (kinds : List Kind) (kind : Kind) (n : ℕ) → length kinds ≡ n → kind_is end_mark kind ≡ false → ((i : ℕ) → slice_get kinds i ≡ Some end_mark → ⊥)
     → (i : ℕ) → slice_get (kinds ++ kind ∷ []) i ≡ Some end_mark → ⊥
 no_end_more kinds kind n long other none i is = go (cases_lt i n)
   where
@@ -135,12 +135,12 @@ runs_out {lines} {n = n} p =
       });
     }
 
-after_ends : {X : Type 0} (rest : List X) (i : ℕ) → i < length rest → slice_get (map (λ _. after_end) rest) i ≡ Some after_end
+pub after_ends : {X : Type 0} (rest : List X) (i : ℕ) → i < length rest → slice_get (map (λ _. after_end) rest) i ≡ Some after_end
 after_ends [] i lt = absurd (omega arith)
 after_ends (x ∷ rest) zero lt = refl
 after_ends (x ∷ rest) (suc i) lt = after_ends rest i (omega arith)
 
-none_after : (kind : Kind) → kind_is kind after_end ≡ false → (rest : List (List ℕ)) → picked kind rest (map (λ _. after_end) rest) ≡ []
+pub none_after : (kind : Kind) → kind_is kind after_end ≡ false → (rest : List (List ℕ)) → picked kind rest (map (λ _. after_end) rest) ≡ []
 none_after kind other [] = refl
 none_after kind other (line ∷ rest) = rw other (none_after kind other rest)
 

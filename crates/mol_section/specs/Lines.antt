@@ -1,13 +1,8 @@
--- The lines of a text.
+-- The lines of bytes.
 -- (CTfile Formats, "SDfiles": a section ends at a line $$$$. That a CR before the LF is no part of a line is this project's own.)
-use Rattle.std.specs.Prelude.{ℕ, List, [], ◌∷◌, ◌++◌, map, nat_eq, Bool, ◌==◌, if◌then◌else◌}
+use Rattle.std.specs.Prelude.{ℕ, List, [], ◌∷◌, map, nat_eq, Bool, ◌==◌, if◌then◌else◌}
 use Rattle.std.specs.List.{starts_with}
 use lib.Chars.{codes}
-
--- the lines one after the other, each with its LF
-abbrev pub text_of : List (List ℕ) → List ℕ
-text_of [] = []
-text_of (line ∷ lines) = line ++ 10 ∷ text_of lines
 
 -- the first line has one more byte at its front
 abbrev pub onto_first : ℕ → List (List ℕ) → List (List ℕ)

@@ -7,6 +7,7 @@ use lib.Chars.{codes}
 use Rattle.htss_defs.specs.declared.mol.Atom.{Atom}
 use Rattle.htss_defs.specs.declared.mol.Bond.{Bond}
 use Rattle.htss_defs.specs.Molecule.{Molecule}
+use Rattle.htss_defs.specs.Marked.{IsMarked, unmarked_molecule}
 use Rattle.mol_section.specs.declared.outcome.SectionOutcome.{SectionOutcome}
 use Rattle.mol_section.specs.declared.outcome.SectionOutcome.TheVariants.{Accepted, Refused}
 use Rattle.mol_section.specs.Fields.{trim_ends, begins, field}
@@ -54,7 +55,7 @@ atom_of atoms properties (place, line) =
 abbrev pub bond_of : List ℕ → Bond
 bond_of line = record { first = bond_first line; second = bond_second line; kind = bond_kind line; ring = false }
 
--- the molecule of a section that is not refused
+-- the molecule of a section that is not refused, its bonds not marked yet
 abbrev pub molecule_of : List (List ℕ) → Molecule
 molecule_of lines =
     let atom_lines = lines_of_kind atom lines in
@@ -78,12 +79,13 @@ pub data Outcome : Type 0 where
   accepted : (name : List ℕ) (mol : Molecule) → Outcome
   refused : (line code : ℕ) → Outcome
 
--- no line is refused, and there is an end mark
+-- no line is refused, there is an end mark, and the molecule is that of the lines, its ring bonds marked
 pub record IsAccepted (lines : List (List ℕ)) (name : List ℕ) (mol : Molecule) : Type 0 where
   pub passes : AcceptsLines lines (length lines)
   pub ends : HasEnd lines
   pub name_is : name ≡ name_of (unwrap_or (slice_get lines 0) [])
-  pub mol_is : mol ≡ molecule_of lines
+  pub mol_is : unmarked_molecule mol ≡ molecule_of lines
+  pub marked : IsMarked mol
 
 -- line i is the first that is refused
 pub record IsRefusedAt (lines : List (List ℕ)) (i code : ℕ) : Type 0 where

@@ -3,7 +3,8 @@ use Rattle.std.specs.Prelude.{◌≡◌, ◌⊎◌, ℕ, ◌+◌, ◌-◌, ◌<�
 use Rattle.std.specs.List.{zip, range_with_len, filter_map}
 use Rattle.htss_defs.specs.declared.mol.Atom.{Atom}
 use Rattle.htss_defs.specs.declared.mol.Bond.{Bond}
-use Rattle.htss_defs.specs.Molecule.{IsAtom, IsBond, AreBondsApart}
+use Rattle.htss_defs.specs.Graph.{Graph}
+use Rattle.htss_defs.specs.Molecule.{IsAtom, IsBond, AreBondsApart, bond_ends}
 use Rattle.mol_section.specs.declared.counts.Counts.{Counts}
 use Rattle.mol_section.specs.SectionLines.{Kind, atom, bond, atom_list, property, end_mark, kinds_of, kinds_after, block_kinds, atom_count, bond_lines_before}
 use Rattle.mol_section.specs.SectionRecord.{AcceptsLines, IsRefusedAt, HasNoEnd, HasEnd, kind_is, lines_of_kind, atom_of, bond_of, sets_charges_aside}
@@ -106,6 +107,11 @@ pub record AtProperties (lines : List (List ℕ)) (sizes : Counts) (n : ℕ) (pa
   pub draft : IsDraft lines n rest (kinds_after passing rest) sizes.atoms aside atoms bonds
   pub all_atoms : length atoms ≡ sizes.atoms
   pub all_bonds : length bonds ≡ sizes.bonds
+
+-- the graph of the bonds that were read
+pub record IsGraphOf (graph : Graph) (size : ℕ) (bonds : List Bond) : Type 0 where
+  pub atoms : graph.atoms ≡ size
+  pub bonds_are : graph.bonds ≡ map bond_ends bonds
 
 -- all that a section says, which ends
 pub record IsRead (lines : List (List ℕ)) (sizes : Counts) (atoms : List Atom) (bonds : List Bond) : Type 0 where

@@ -2,8 +2,9 @@
 ghost use Rattle.std.specs.Prelude.{◌≡◌, ℕ, ◌+◌, ◌<◌, ◌≤◌, false, [], length, map, IfOk, IfErr};
 ghost use Rattle.htss_defs.specs.Molecule.{bond_ends};
 ghost use Rattle.mol_section.specs.Lines.{lines_of};
-ghost use Rattle.mol_section.specs.Walk.{AtHeader, AtAtoms, AtBonds, AtLists, AtProperties, IsRead};
+ghost use Rattle.mol_section.specs.Walk.{AtHeader, AtAtoms, AtBonds, AtLists, AtProperties, IsRead, IsGraphOf};
 ghost use Rattle.mol_section.specs.Stops.{IsStopOf};
+ghost use Rattle.mol_section.specs.declared.blocks.Stop.TheVariants.{Memory};
 
 use crate::atoms::atom_of;
 use crate::bonds::bond_of;
@@ -11,13 +12,29 @@ use crate::counts::{Counts, counts_of};
 use crate::lines::line_at;
 use crate::properties::{Step, take_line};
 use htss_defs::{Adjacency, Atom, Bond};
-use std::alloc::Global;
+use std::alloc::{AllocError, AllocFailed, Global};
 
 /// Why a section has no record: memory ran out, or a line is refused, counted from 0.
 #[derive(Clone, Copy, Debug)]
 pub enum Stop {
     Memory,
     Refused { line: u64, code: u8 },
+}
+
+impl From<AllocError> for Stop {
+    ghost from_gives = { λ _ stop. stop ≡ Memory };
+
+    fn from(_: AllocError) -> Self {
+        Stop::Memory
+    }
+}
+
+impl<T: Drop> From<AllocFailed<T>> for Stop {
+    ghost from_gives = { λ _ stop. stop ≡ Memory };
+
+    fn from(_: AllocFailed<T>) -> Self {
+        Stop::Memory
+    }
 }
 
 /// What was read of a section, whose first lines are passed: its counts, atoms and bonds.
@@ -56,10 +73,7 @@ pub fn read_counts(alloc: Global, bytes: &[u8]) -> Result<Draft<'_>, Stop>
     ensures few_bonds { IfOk result (λ d. d.sizes.bonds ≤ 999) }
     ensures stop { IfErr result (λ stop. IsStopOf (lines_of bytes.now) stop) }
 {
-    let rest = match skip_header(bytes) {
-        Ok(rest) => rest,
-        Err(stop) => return Err(stop),
-    };
+    let rest = skip_header(bytes)?;
     let (line, after) = match line_at(rest) {
         Ok(taken) => taken,
         Err(code) => return Err(Stop::Refused { line: 3, code }),
@@ -68,14 +82,8 @@ pub fn read_counts(alloc: Global, bytes: &[u8]) -> Result<Draft<'_>, Stop>
         Ok(sizes) => sizes,
         Err(code) => return Err(Stop::Refused { line: 3, code }),
     };
-    let atoms = match Vec::with_capacity(alloc, sizes.atoms as usize) {
-        Ok(atoms) => atoms,
-        Err(_) => return Err(Stop::Memory),
-    };
-    let bonds = match Vec::with_capacity(alloc, sizes.bonds as usize) {
-        Ok(bonds) => bonds,
-        Err(_) => return Err(Stop::Memory),
-    };
+    let atoms = Vec::with_capacity(alloc, sizes.atoms as usize)?;
+    let bonds = Vec::with_capacity(alloc, sizes.bonds as usize)?;
     Ok(Draft {
         rest: after,
         passed: 4,
@@ -110,10 +118,7 @@ pub fn read_atoms<'a>(bytes: &[u8], draft: Draft<'a>) -> Result<Draft<'a>, Stop>
             Ok(atom) => atom,
             Err(code) => return Err(Stop::Refused { line: passed, code }),
         };
-        match atoms.push(atom) {
-            Ok(_) => {}
-            Err(_) => return Err(Stop::Memory),
-        }
+        atoms.push(atom)?;
         rest = after;
         passed += 1;
     }
@@ -141,6 +146,8 @@ pub fn read_bonds<'a>(
         (lines_of d.rest.now) d.atoms.items d.bonds.items) }
     ensures shorter { IfOk result (λ d. d.passed + length d.rest.now ≤ length bytes.now) }
     ensures sizes { IfOk result (λ d. d.sizes ≡ draft.entry.sizes) }
+    ensures graph { IfOk result (λ d.
+        IsGraphOf graph.new d.sizes.atoms d.bonds.items) }
     ensures stop { IfErr result (λ stop. IsStopOf (lines_of bytes.now) stop) }
 {
     let sizes = draft.sizes;
@@ -158,10 +165,7 @@ pub fn read_bonds<'a>(
             Ok(bond) => bond,
             Err(code) => return Err(Stop::Refused { line: passed, code }),
         };
-        match bonds.push(bond) {
-            Ok(_) => {}
-            Err(_) => return Err(Stop::Memory),
-        }
+        bonds.push(bond)?;
         rest = after;
         passed += 1;
     }
@@ -183,6 +187,7 @@ pub fn skip_lists<'a>(bytes: &[u8], draft: Draft<'a>) -> Result<Draft<'a>, Stop>
         (lines_of d.rest.now) false d.atoms.items d.bonds.items) }
     ensures shorter { IfOk result (λ d. d.passed + length d.rest.now ≤ length bytes.now) }
     ensures sizes { IfOk result (λ d. d.sizes ≡ draft.entry.sizes) }
+    ensures bonds { IfOk result (λ d. d.bonds.items ≡ draft.entry.bonds.items) }
     ensures stop { IfErr result (λ stop. IsStopOf (lines_of bytes.now) stop) }
 {
     let sizes = draft.sizes;
@@ -215,6 +220,7 @@ pub fn read_properties<'a>(bytes: &[u8], draft: Draft<'a>) -> Result<Draft<'a>, 
     ensures read { IfOk result (λ d.
         IsRead (lines_of bytes.now) d.sizes d.atoms.items d.bonds.items) }
     ensures sizes { IfOk result (λ d. d.sizes ≡ draft.entry.sizes) }
+    ensures bonds { IfOk result (λ d. d.bonds.items ≡ draft.entry.bonds.items) }
     ensures stop { IfErr result (λ stop. IsStopOf (lines_of bytes.now) stop) }
 {
     let sizes = draft.sizes;

@@ -51,8 +51,8 @@ pub fn bond_of(line: &[u8], graph: &mut Adjacency) -> Result<Bond, u8>
     })
 }
 
-// Adds a bond unless one joins its places already, and answers whether it did.
-fn add_new(graph: &mut Adjacency, ends: Ends) -> bool
+/// Adds a bond unless one joins its places already, and answers whether it did.
+pub fn add_new(graph: &mut Adjacency, ends: Ends) -> bool
     requires ends { AreEnds graph.old.atoms ends }
     requires room { length graph.old.bonds < 999 }
     ensures new { result ≡ not (is_taken graph.old.bonds ends) }

@@ -38,6 +38,7 @@ pub fn trim(text: &[u8]) -> &[u8]
     trim_back(trim_front(text))
 }
 
+// The text without spaces at its front.
 fn trim_front(text: &[u8]) -> &[u8]
     ensures text { result.now ≡ trim_front text.now }
     ensures short { length result.now ≤ length text.now }
@@ -49,6 +50,7 @@ fn trim_front(text: &[u8]) -> &[u8]
     rest
 }
 
+// The text without spaces at its end.
 fn trim_back(text: &[u8]) -> &[u8]
     ensures text { result.now ≡ reverse (trim_front (reverse text.now)) }
     ensures short { length result.now ≤ length text.now }
@@ -60,6 +62,7 @@ fn trim_back(text: &[u8]) -> &[u8]
     rest
 }
 
+// Whether it is a decimal digit.
 fn is_digit(byte: u8) -> bool
     ensures { result ≡ (nat_le 48 byte && nat_le byte 57) }
 {
@@ -133,6 +136,7 @@ pub fn next_word(text: &[u8]) -> Option<(&[u8], &[u8])>
     }
 }
 
+// The place of the first space.
 fn space_place(text: &[u8]) -> Option<usize>
     ensures within { IfSome result (λ i. i < length text.now) }
     ensures found { IfSome result (λ i. slice_index text.now i ≡ 32) }

@@ -14,5 +14,11 @@ mod symbols;
 #[cfg(test)]
 mod tests;
 
+pub use bonds::{add_new, is_place};
+pub use counts::{Counts, counts_of};
+pub use fields::{count_of, field, next_word, number_of};
+pub use lines::{line_at, next_line};
 pub use outcome::SectionOutcome;
+pub use properties::{Step, take_line};
 pub use section::{read_section, read_section_with};
+pub use symbols::{charge_value, symbol_value};

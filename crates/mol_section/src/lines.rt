@@ -38,6 +38,7 @@ pub fn next_line(bytes: &[u8]) -> Option<(&[u8], &[u8])>
     Some((without_cr(line), rest))
 }
 
+// The first line, without its LF, and what stands after it.
 fn raw_line(bytes: &[u8]) -> Option<(&[u8], &[u8])>
     ensures none { IfNone result (bytes.now ≡ []) }
     ensures line { IfSome result (λ x. raw_lines bytes.now ≡ x.0.now ∷ raw_lines x.1.now) }
@@ -55,6 +56,7 @@ fn raw_line(bytes: &[u8]) -> Option<(&[u8], &[u8])>
     }
 }
 
+// The place of the first LF.
 fn lf_place(bytes: &[u8]) -> Option<usize>
     ensures within { IfSome result (λ i. i < length bytes.now) }
     ensures found { IfSome result (λ i. slice_index bytes.now i ≡ 10) }
@@ -65,6 +67,7 @@ fn lf_place(bytes: &[u8]) -> Option<usize>
     memchr(10, bytes)
 }
 
+// The line without a CR at its end.
 #[tactic(auto, using(crate::proofs::RawLines::without_cr_at, crate::proofs::RawLines::without_cr_none))]
 fn without_cr(line: &[u8]) -> &[u8]
     ensures { result.now ≡ without_cr line.now }

@@ -56,6 +56,7 @@ pub fn take_line(line: &[u8], passing: bool, aside: bool, atoms: &mut [Atom]) ->
     }
 }
 
+// Whether the line after this one is passed over.
 fn passes_next(line: &[u8]) -> bool
     ensures { result ≡ passes_next line.now }
 {
@@ -81,6 +82,7 @@ fn take_property(line: &[u8], atoms: &mut [Atom], aside: bool) -> Option<bool>
     }
 }
 
+// Sets the charges of the atom block aside where the line is the first that does, and answers whether they are.
 #[tactic(auto, unfolding(crate::specs::PropertyLines::set_aside))]
 fn take_aside(line: &[u8], atoms: &mut [Atom], aside: bool) -> bool
     requires { All IsAtom atoms.old }
@@ -98,6 +100,7 @@ fn take_aside(line: &[u8], atoms: &mut [Atom], aside: bool) -> bool
     false
 }
 
+// Sets all charges to 0.
 fn clear_charges(atoms: &mut [Atom])
     requires { All IsAtom atoms.old }
     ensures atoms { atoms.new ≡ map no_charge atoms.old }
@@ -108,6 +111,7 @@ fn clear_charges(atoms: &mut [Atom])
     }
 }
 
+// Puts the charges that the line lists, if it does, and answers whether they are in the grammar.
 #[tactic(auto, unfolding(crate::specs::PropertyLines::put_charges))]
 fn take_charges(line: &[u8], atoms: &mut [Atom]) -> bool
     requires few { length atoms.old ≤ 999 }
@@ -171,6 +175,7 @@ struct Charged<'a> {
     rest: &'a [u8],
 }
 
+// The place and the charge at the front, and what stands after them.
 #[tactic(auto, unfolding(crate::specs::PropertyLines::entry_at, crate::specs::PropertyLines::value_at))]
 fn charge_at(text: &[u8], atoms: u16) -> Option<Charged<'_>>
     ensures entry { option_map (λ x. (x.place, x.charge, words_of x.rest.now)) result
@@ -204,6 +209,7 @@ fn place_at(text: &[u8], atoms: u16) -> Option<(u16, &[u8])>
     }
 }
 
+// The charge that a word says, from -15 to 15.
 #[tactic(auto, unfolding(crate::specs::SectionLines::listed_charge))]
 fn listed_charge(word: &[u8]) -> Option<i8>
     ensures value { result ≡ listed_charge word.now }
@@ -217,6 +223,7 @@ fn listed_charge(word: &[u8]) -> Option<i8>
     }
 }
 
+// Puts the masses that the line lists, if it does, and answers whether they are in the grammar.
 #[tactic(auto, unfolding(crate::specs::PropertyLines::put_masses))]
 fn take_masses(line: &[u8], atoms: &mut [Atom]) -> bool
     requires few { length atoms.old ≤ 999 }
@@ -266,6 +273,7 @@ struct Weighed<'a> {
     rest: &'a [u8],
 }
 
+// The place and the mass at the front, and what stands after them.
 #[tactic(auto, unfolding(crate::specs::PropertyLines::entry_at, crate::specs::PropertyLines::value_at, crate::specs::SectionLines::listed_mass))]
 fn mass_at(text: &[u8], atoms: u16) -> Option<Weighed<'_>>
     ensures entry { option_map (λ x. (x.place, x.mass, words_of x.rest.now)) result
@@ -279,6 +287,7 @@ fn mass_at(text: &[u8], atoms: u16) -> Option<Weighed<'_>>
     Some(Weighed { place, mass, rest })
 }
 
+// The atom with this charge.
 fn with_charge(atom: Atom, charge: i8) -> Atom
     ensures { result ≡ record atom { charge = charge } }
 {
@@ -289,6 +298,7 @@ fn with_charge(atom: Atom, charge: i8) -> Atom
     }
 }
 
+// The atom with this mass.
 fn with_mass(atom: Atom, mass: u16) -> Atom
     ensures { result ≡ record atom { mass = mass } }
 {

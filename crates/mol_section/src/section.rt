@@ -1,9 +1,11 @@
 // The record of a section.
-ghost use Rattle.std.specs.Prelude.{◌≡◌, ℕ, ◌+◌, ◌^◌, ◌<◌, ◌≤◌, length, take, slice_get};
+ghost use Rattle.std.specs.Prelude.{◌≡◌, ℕ, ◌+◌, ◌^◌, ◌<◌, ◌≤◌, length, take, map, slice_get};
 ghost use Rattle.std.specs.Prelude.{Some, IsSome, IfOk, IfErr};
+ghost use Rattle.htss_defs.specs.Molecule.{IsMolecule, molecule_graph};
+ghost use Rattle.htss_defs.specs.Marked.{IsMarked, unmarked};
 ghost use Rattle.mol_section.specs.Lines.{lines_of};
 ghost use Rattle.mol_section.specs.SectionRecord.{IsOutcome, outcome_of, name_of};
-ghost use Rattle.mol_section.specs.Walk.{IsRead};
+ghost use Rattle.mol_section.specs.Walk.{IsRead, IsGraphOf};
 ghost use Rattle.mol_section.specs.Stops.{IsStopOf};
 ghost use Rattle.mol_section.specs.Names.{visible};
 
@@ -14,11 +16,13 @@ use crate::blocks::{
 use crate::fields::trim;
 use crate::lines::next_line;
 use arrayvec::ArrayVec;
-use htss_defs::{Adjacency, Mol, Name, OutOfMemory};
+use htss_defs::{Adjacency, Atom, Bond, Mol, Name, OutOfMemory};
+use ring_bonds::mark_linked;
 use std::alloc::Global;
 
-/// The outcome of the section with these bytes, whose first line has this number: its record, or
-/// the first line that is refused, by the number of that line, with the code of the refusal.
+/// The outcome of the section with these bytes, whose first line has this number: its record,
+/// with its ring bonds marked, or the first line that is refused, by the number of that line, with
+/// the code of the refusal.
 pub fn read_section(alloc: Global, bytes: &[u8], first: u64) -> Result<SectionOutcome, OutOfMemory>
     requires { first + length bytes.now < 2 ^ 64 }
     ensures { IfOk result (λ outcome. IsOutcome first (lines_of bytes.now) (outcome_of outcome)) }
@@ -45,39 +49,44 @@ pub fn read_section_with(
         }),
         Ok(draft) => Ok(SectionOutcome::Accepted {
             name: name_of(first_line(bytes)),
-            mol: Mol::of_valid(draft.atoms, draft.bonds),
+            mol: marked(draft.atoms, draft.bonds, graph),
         }),
     }
 }
 
-// Reads all blocks up to the end mark.
+// The molecule of these lists, whose graph this is, with its ring bonds marked.
+fn marked(atoms: Vec<Atom>, bonds: Vec<Bond>, graph: &Adjacency) -> Mol
+    requires valid { IsMolecule (record { atoms = atoms.items; bonds = bonds.items }) }
+    requires graph { graph.now
+        ≡ molecule_graph (record { atoms = atoms.items; bonds = bonds.items }) }
+    ensures marked { IsMarked result }
+    ensures atoms { result.atoms ≡ atoms.items }
+    ensures bonds { map unmarked result.bonds ≡ map unmarked bonds.items }
+{
+    let mut mol = Mol::of_valid(atoms, bonds);
+    mark_linked(&mut mol, graph);
+    mol
+}
+
+// Reads all blocks up to the end mark. The graph becomes that of the bonds, whatever it was.
 fn read_draft<'a>(alloc: Global, bytes: &'a [u8], graph: &mut Adjacency) -> Result<Draft<'a>, Stop>
     ensures read { IfOk result (λ d.
         IsRead (lines_of bytes.now) d.sizes d.atoms.items d.bonds.items) }
+    ensures graph { IfOk result (λ d.
+        IsGraphOf graph.new d.sizes.atoms d.bonds.items) }
     ensures some { IfOk result (λ d. 1 ≤ d.sizes.atoms) }
     ensures few { IfOk result (λ d. d.sizes.atoms ≤ 999) }
     ensures few_bonds { IfOk result (λ d. d.sizes.bonds ≤ 999) }
     ensures stop { IfErr result (λ stop. IsStopOf (lines_of bytes.now) stop) }
 {
-    let draft = match read_counts(alloc, bytes) {
-        Ok(draft) => draft,
-        Err(stop) => return Err(stop),
-    };
-    let draft = match read_atoms(bytes, draft) {
-        Ok(draft) => draft,
-        Err(stop) => return Err(stop),
-    };
-    let draft = match read_bonds(bytes, draft, graph) {
-        Ok(draft) => draft,
-        Err(stop) => return Err(stop),
-    };
-    let draft = match skip_lists(bytes, draft) {
-        Ok(draft) => draft,
-        Err(stop) => return Err(stop),
-    };
+    let draft = read_counts(alloc, bytes)?;
+    let draft = read_atoms(bytes, draft)?;
+    let draft = read_bonds(bytes, draft, graph)?;
+    let draft = skip_lists(bytes, draft)?;
     read_properties(bytes, draft)
 }
 
+// The first line.
 fn first_line(bytes: &[u8]) -> &[u8]
     requires { IsSome (slice_get (lines_of bytes.now) 0) }
     ensures { slice_get (lines_of bytes.now) 0 ≡ Some result.now }
@@ -111,6 +120,7 @@ fn visible(line: &[u8]) -> ArrayVec<u8, 80>
     text
 }
 
+// The first 80 bytes, or all if there are fewer.
 fn front(line: &[u8]) -> &[u8]
     ensures front { result.now ≡ take 80 line.now }
     ensures short { length result.now ≤ 80 }

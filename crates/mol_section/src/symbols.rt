@@ -40,6 +40,7 @@ fn element_place(symbol: &[u8]) -> Option<usize>
     symbol_place(symbol)
 }
 
+// The place of the symbol in the table, by a search.
 #[tactic(auto, unfolding(crate::specs::AtomLines::element_place))]
 fn symbol_place(symbol: &[u8]) -> Option<usize>
     ensures place { result ≡ element_place symbol.now }
@@ -68,6 +69,7 @@ fn likely_place(symbol: &[u8]) -> usize
     }
 }
 
+// Whether the symbol is the one at this place of the table.
 fn is_at(symbol: &[u8], place: usize) -> bool
     requires { place < 118 }
     ensures { IsTrue result → element_place symbol.now ≡ Some place }
@@ -89,6 +91,7 @@ pub fn charge_value(text: &[u8]) -> Option<i8>
     }
 }
 
+// The charge of a charge code that is a number.
 #[tactic(auto, unfolding(crate::specs::AtomLines::charge_of_code))]
 fn charge_of(code: u16) -> Option<i8>
     ensures charge { result ≡ charge_of_code code }

@@ -30,6 +30,7 @@ fn name_of(alloc: Global, text: &str) -> Result<Option<Name>, Fail> {
     }
 }
 
+// An atom.
 fn atom(element: u8, charge: i8, mass: u16) -> Atom {
     Atom {
         element,

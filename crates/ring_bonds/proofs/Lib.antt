@@ -4,3 +4,4 @@ pub mod Rings
 pub mod Visits
 pub mod Tops
 pub mod Molecules
+pub mod QueryBonds

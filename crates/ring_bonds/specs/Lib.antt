@@ -1,3 +1,4 @@
 pub mod Forest
 pub mod Visits
 pub mod Marking
+pub mod QueryFlags

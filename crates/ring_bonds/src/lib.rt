@@ -4,9 +4,11 @@
 mod forest;
 mod marking;
 mod molecule;
+mod query;
 
 pub use marking::ring_flags;
-pub use molecule::mark_rings;
+pub use molecule::{mark_linked, mark_rings};
+pub use query::marked_query;
 
 #[cfg(test)]
 mod tests;

@@ -1,4 +1,5 @@
 ghost use Rattle.std.specs.Prelude.{◌≡◌, map};
+ghost use Rattle.htss_defs.specs.Molecule.{molecule_graph};
 ghost use Rattle.htss_defs.specs.Marked.{IsMarked, unmarked};
 
 use crate::marking::ring_flags;
@@ -13,7 +14,17 @@ pub fn mark_rings(mol: &mut Mol)
 {
     let mut graph = Adjacency::new();
     mol.link(&mut graph);
-    let flags = ring_flags(&graph);
+    mark_linked(mol, &graph);
+}
+
+/// The same, with a graph that is that of the molecule already.
+pub fn mark_linked(mol: &mut Mol, graph: &Adjacency)
+    requires { graph.now ≡ molecule_graph mol.old }
+    ensures marked { IsMarked mol.new }
+    ensures atoms { mol.new.atoms ≡ mol.old.atoms }
+    ensures bonds { map unmarked mol.new.bonds ≡ map unmarked mol.old.bonds }
+{
+    let flags = ring_flags(graph);
     for bond in 0..mol.bonds().len() {
         mol.set_ring(bond, flags[bond]);
     }

@@ -1,9 +1,10 @@
-use crate::{mark_rings, ring_flags};
-use htss_defs::{Adjacency, Atom, Bond, Ends, Mol};
+use crate::{mark_rings, marked_query, ring_flags};
+use htss_defs::{Adjacency, Atom, AtomTest, Bond, Ends, Mol, Query, QueryAtom, QueryBond};
 use std::alloc::Global;
 use std::test::Fail;
 
 // The number of carbons, and for each bond its places and whether it is a ring bond.
+#[derive(Drop)]
 struct Sketch {
     atoms: u16,
     bonds: &'static [(u16, u16, bool)],
@@ -74,6 +75,69 @@ fn molecule_of(alloc: Global, sketch: &Sketch) -> Result<Mol, Fail> {
         })?;
     }
     Ok(Mol::new(atoms, bonds).ok_or("no molecule")?)
+}
+
+fn query_of(alloc: Global, sketch: &Sketch, topology: u8) -> Result<Option<Query>, Fail> {
+    let mut atoms = Vec::new(alloc);
+    for _ in 0..sketch.atoms {
+        atoms.push(QueryAtom {
+            test: AtomTest::Any,
+            charge: 0,
+            mass: 0,
+        })?;
+    }
+    let mut bonds = Vec::new(alloc);
+    for bond in sketch.bonds {
+        bonds.push(QueryBond {
+            first: bond.0,
+            second: bond.1,
+            kind: 5,
+            topology,
+            ring: !bond.2,
+        })?;
+    }
+    Ok(marked_query(atoms, bonds))
+}
+
+#[test]
+fn marks_queries(rt: HostRuntime) -> Result<(), Fail> {
+    for sketch in [&TAILED_RING, &CHAIN_BESIDE_RING, &CHAIN] {
+        let query = query_of(rt.alloc(), sketch, 2)?.ok_or("no query")?;
+        assert_eq!(rt; query.bonds().len(), sketch.bonds.len());
+        for (marked, want) in query.bonds().iter().zip(sketch.bonds) {
+            assert_eq!(rt; marked.ring, want.2);
+            assert_eq!(rt; marked.kind, 5);
+            assert_eq!(rt; marked.topology, 2);
+        }
+    }
+    assert!(rt; query_of(rt.alloc(), &CHAIN, 3)?.is_none());
+    Ok(())
+}
+
+#[test]
+fn refuses_queries(rt: HostRuntime) -> Result<(), Fail> {
+    let refused = [
+        Sketch {
+            atoms: 0,
+            bonds: &[],
+        },
+        Sketch {
+            atoms: 65,
+            bonds: &[],
+        },
+        Sketch {
+            atoms: 2,
+            bonds: &[(1, 3, false)],
+        },
+        Sketch {
+            atoms: 2,
+            bonds: &[(1, 2, false), (2, 1, false)],
+        },
+    ];
+    for sketch in &refused {
+        assert!(rt; query_of(rt.alloc(), sketch, 0)?.is_none());
+    }
+    Ok(())
 }
 
 #[test]

@@ -1,52 +1,75 @@
-use Rattle.std.proofs.Common.{◌<◌, length, sym, ap, ◌∙◌, arith, rules}
-use Rattle.embed.proofs.Maps.{IsFirstFrom-whole, IsPartial-pushed, IsFirstFrom-pushed, NoneBy-start, NoneBy-popped, NoneBy-passed, IsStuck-from, popped}
+use Rattle.std.proofs.Common.{◌<◌, length, ap, arith, rules}
+use Rattle.embed.proofs.Maps.{IsFirstFrom-whole}
+use Rattle.embed.proofs.Costs.{IsSpent-at, Ledger-end}
+use Rattle.embed.proofs.Anchors.{anchor-in_graph}
+use Rattle.embed.proofs.Steps.{Tries-start, Tries-refused, Tries-end, Step-at, Step-partial, Step-found, Step-paid, Step-spent, Step-stuck}
 use Rattle.embed.proofs.search.+search.Goals as goal
-use Rattle.embed.proofs.search.+search.Goals.{then-may_extend+else-search, else-may_extend}
 
 pub returns-then-len-atoms-clause-found : goal.returns-then-len-atoms-clause-found
 returns-then-len-atoms-clause-found t c = λ _. IsFirstFrom-whole _ _ _ c.atoms.ensures.valid c.requires (search rules)
 
-pub loop-i-init : goal.loop-i-init
-loop-i-init t c =
+pub returns-then-budget-target-clause-spent : goal.returns-then-budget-target-clause-spent
+returns-then-budget-target-clause-spent t c = λ _.
     let more : length c.args.map.now.items < length c.args.target.now.query.now.atoms = omega
     (arith, c.requires.fits, ap length c.atoms.ensures.items) in
-    record { same = search rules; none = NoneBy-start _ _ _ c.atoms.ensures.valid more }
+    IsSpent-at _ _ _ _ _ more c.args.target.now.low_price (omega arith)
+
+pub loop-p-init : goal.loop-p-init
+loop-p-init t c =
+    let more : length c.args.map.now.items < length c.args.target.now.query.now.atoms = omega
+    (arith, c.requires.fits, ap length c.atoms.ensures.items) in
+    Tries-start _ _ _ _ _ _ _ _ c.atoms.ensures.valid more c.args.target.now.low_price (omega arith)
+    c.as_slice.ensures.value c.anchor-anchor.ensures.some
+
+pub next_place-requires-clause-anchor : goal.next_place-requires-clause-anchor
+next_place-requires-clause-anchor t c = anchor-in_graph _ _ _ _ _ c.atoms.ensures.valid c.requires
+    c.args.target.now.bonds_is c.loop-p.invariant.anchored
 
 pub search-requires : goal.search-requires
 search-requires t c =
-    let more : length c.args.map.now.items < length c.args.target.now.query.now.atoms = omega
-    (arith, c.requires.fits, ap length c.atoms.ensures.items) in
-    let pushed = IsPartial-pushed _ _ _ _ _ _ _ c.atoms.ensures.valid c.requires more c.loop-i.invariant.same
-    c.as_slice.ensures.value c.push.ensures.items (sym c.may_extend.ensures ∙ c.if-may_extend.true) in
-    (omega (arith, more, ap length c.loop-i.invariant.same), pushed)
+    let step = Step-at _ _ _ _ _ _ _ _ _ _ _ _ _ _ c.atoms.ensures.valid c.requires c.args.target.now.bonds_is
+    c.loop-p.invariant c.in-Some.ensures.some c.as_slice-in-Some.ensures.value c.may_extend.ensures
+    c.if-may_extend.true c.push.ensures.items in
+    (omega (arith, step.more, step.len), Step-partial _ _ _ _ _ _ step)
 
-pub returns-then-search-clause-found : goal.returns-then-search-clause-found
-returns-then-search-clause-found t c = λ _.
-    let more : length c.args.map.now.items < length c.args.target.now.query.now.atoms = omega
-    (arith, c.requires.fits, ap length c.atoms.ensures.items) in
-    IsFirstFrom-pushed _ _ _ _ _ _ c.loop-i.i more c.loop-i.invariant.none c.loop-i.invariant.same
-    c.push.ensures.items (c.search.ensures.found c.if-search.true)
+pub returns-in-Yes-clause-found : goal.returns-in-Yes-clause-found
+returns-in-Yes-clause-found t c = λ _.
+    let step = Step-at _ _ _ _ _ _ _ _ _ _ _ _ _ _ c.atoms.ensures.valid c.requires c.args.target.now.bonds_is
+    c.loop-p.invariant c.in-Some.ensures.some c.as_slice-in-Some.ensures.value c.may_extend.ensures
+    c.if-may_extend.true c.push.ensures.items in
+    Step-found _ _ _ _ _ _ _ step (c.in-Yes.ensures.found (search rules))
 
-pub loop-i-preserved : goal.loop-i-preserved
-loop-i-preserved t c =
-    let more : length c.args.map.now.items < length c.args.target.now.query.now.atoms = omega
-    (arith, c.requires.fits, ap length c.atoms.ensures.items) in
-    elim c.if-may_extend.branch [
-      | then-may_extend+else-search w ↦ record {
-        same = ap (λ x. x.items) w.map-is ∙ popped _ _ _ _ _ _ c.loop-i.invariant.same w.push.ensures.items
-            (w.search.ensures.same w.if-search.false) w.pop.ensures.rest;
-        none = NoneBy-popped _ _ _ _ _ c.loop-i.i more c.loop-i.invariant.none c.loop-i.invariant.same
-            w.push.ensures.items (w.search.ensures.stuck w.if-search.false);
-      }
-      | else-may_extend w ↦ record {
-        same = search rules;
-        none = NoneBy-passed _ _ _ _ _ c.loop-i.i c.atoms.ensures.valid more c.loop-i.invariant.none
-            c.loop-i.invariant.same c.as_slice.ensures.value (sym c.may_extend.ensures ∙ w.if-may_extend.false);
-      }
-    ]
+pub returns-in-Yes-clause-paid : goal.returns-in-Yes-clause-paid
+returns-in-Yes-clause-paid t c = λ _.
+    let step = Step-at _ _ _ _ _ _ _ _ _ _ _ _ _ _ c.atoms.ensures.valid c.requires c.args.target.now.bonds_is
+    c.loop-p.invariant c.in-Some.ensures.some c.as_slice-in-Some.ensures.value c.may_extend.ensures
+    c.if-may_extend.true c.push.ensures.items in
+    Ledger-end _ _ _ _ _ _ _
+    (Step-paid _ _ _ _ _ _ _ _ _ _ step c.loop-p.invariant.ledger (c.in-Yes.ensures.paid (search rules)))
+
+pub returns-in-Spent-clause-spent : goal.returns-in-Spent-clause-spent
+returns-in-Spent-clause-spent t c = λ _.
+    let step = Step-at _ _ _ _ _ _ _ _ _ _ _ _ _ _ c.atoms.ensures.valid c.requires c.args.target.now.bonds_is
+    c.loop-p.invariant c.in-Some.ensures.some c.as_slice-in-Some.ensures.value c.may_extend.ensures
+    c.if-may_extend.true c.push.ensures.items in
+    Step-spent _ _ _ _ _ _ _ _ _ _ step c.loop-p.invariant.ledger (c.in-Spent.ensures.spent (search rules))
+
+pub loop-p-preserved-in-No : goal.loop-p-preserved-in-No
+loop-p-preserved-in-No t c =
+    let step = Step-at _ _ _ _ _ _ _ _ _ _ _ _ _ _ c.atoms.ensures.valid c.requires c.args.target.now.bonds_is
+    c.loop-p.invariant c.in-Some.ensures.some c.as_slice-in-Some.ensures.value c.may_extend.ensures
+    c.if-may_extend.true c.push.ensures.items in
+    Step-stuck _ _ _ _ _ _ _ _ _ _ _ _ _ _ step c.loop-p.invariant (c.in-No.ensures.stuck (search rules))
+    (c.in-No.ensures.paid (search rules)) (c.in-No.ensures.same (search rules)) c.pop.ensures.rest
+
+pub loop-p-preserved : goal.loop-p-preserved
+loop-p-preserved t c = Tries-refused _ _ _ _ _ _ _ _ _ _ _ _ _ c.atoms.ensures.valid c.args.target.now.bonds_is
+    c.loop-p.invariant c.in-Some.ensures.some c.as_slice-in-Some.ensures.value c.may_extend.ensures
+    c.if-may_extend.false
 
 pub returns-clause-stuck : goal.returns-clause-stuck
-returns-clause-stuck t c = λ _.
-    let more : length c.args.map.now.items < length c.args.target.now.query.now.atoms = omega
-    (arith, c.requires.fits, ap length c.atoms.ensures.items) in
-    IsStuck-from _ _ _ c.loop-i.i (omega (arith, ap length c.atoms-i-end.ensures.items)) more c.loop-i.invariant.none
+returns-clause-stuck t c = λ _. Tries-end _ _ _ _ _ _ _ _ _ _ c.atoms.ensures.valid c.args.target.now.bonds_is
+    c.loop-p.invariant c.in_default.ensures.none
+
+pub returns-clause-paid : goal.returns-clause-paid
+returns-clause-paid t c = λ _. Ledger-end _ _ _ _ _ _ _ c.loop-p.invariant.ledger

@@ -1,12 +1,13 @@
-use Rattle.std.proofs.Common.{◌≡◌, ◌-◌, length}
-use Rattle.embed.specs.Partial.{NoneBy}
+use Rattle.std.proofs.Common.{◌-◌, length}
+use Rattle.embed.proofs.Steps.{Tries}
 use Rattle.embed.proofs.search.+search.Given as goal
 
 abbrev pub decreases-search : goal.decreases-search
 decreases-search l = length l.target.now.query.now.atoms - length l.map.now.items
 
-abbrev pub invariant-loop-i : goal.invariant-loop-i
-invariant-loop-i l = record {
-  same : l.map.items ≡ l.fn.map.items;
-  none : NoneBy l.target.query.now l.target.mol.now l.fn.map.items l.i;
-}
+abbrev pub invariant-loop-p : goal.invariant-loop-p
+invariant-loop-p l = Tries l.target.query.now l.target.mol.now l.fn.map.items l.map.items l.anchor l.target.price
+    l.after l.fn.budget l.budget
+
+abbrev pub decreases-loop-p : goal.decreases-loop-p
+decreases-loop-p l = length l.target.mol.now.atoms - l.after

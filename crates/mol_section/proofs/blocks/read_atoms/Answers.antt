@@ -10,7 +10,7 @@ returns-in-Err-atom_of-clause-stop c = AtAtoms-refused _ _ _ _ c.args.draft.size
 
 pub loop-preserved : goal.loop-preserved
 loop-preserved c = record {
-  at = AtAtoms-line _ _ _ _ c.args.draft.sizes _ c.loop.counter _ _ _ _ c.in-Ok.ensures.line (omega arith) c.in-Ok.ensures.fits c.in-Ok-atom_of.ensures.accepted c.in-Ok-push.ensures.items c.loop.invariant.at;
+  at = AtAtoms-line _ _ _ _ c.args.draft.sizes _ c.loop.counter _ _ _ _ c.in-Ok.ensures.line (omega arith) c.in-Ok.ensures.fits c.in-Ok-atom_of.ensures.accepted c.in_ok-push.ensures.items c.loop.invariant.at;
   shorter = omega (arith, c.in-Ok.ensures.shorter, c.loop.invariant.shorter);
 }
 

@@ -10,8 +10,8 @@ returns-in-Err-bond_of-clause-stop c = AtBonds-refused _ _ _ _ c.args.draft.size
 
 pub loop-preserved : goal.loop-preserved
 loop-preserved c = record {
-  at = AtBonds-line _ _ _ _ c.args.draft.sizes _ c.loop.counter _ _ _ _ _ c.in-Ok.ensures.line (omega arith) c.in-Ok.ensures.fits c.loop.invariant.graph c.in-Ok-bond_of.ensures.accepted c.in-Ok-push.ensures.items c.loop.invariant.at;
-  graph = IsGraphOf-more c.loop.graph c.args.draft.sizes.atoms c.loop.bonds.items _ c.in-Ok-bond_of.bond _ c.in-Ok-bond_of.ensures.added c.in-Ok-push.ensures.items c.loop.invariant.graph;
+  at = AtBonds-line _ _ _ _ c.args.draft.sizes _ c.loop.counter _ _ _ _ _ c.in-Ok.ensures.line (omega arith) c.in-Ok.ensures.fits c.loop.invariant.graph c.in-Ok-bond_of.ensures.accepted c.in_ok-push.ensures.items c.loop.invariant.at;
+  graph = IsGraphOf-more c.loop.graph c.args.draft.sizes.atoms c.loop.bonds.items _ c.in-Ok-bond_of.bond _ c.in-Ok-bond_of.ensures.added c.in_ok-push.ensures.items c.loop.invariant.graph;
   shorter = omega (arith, c.in-Ok.ensures.shorter, c.loop.invariant.shorter);
 }
 

@@ -1,7 +1,6 @@
 use Rattle.std.proofs.Common.{◌+◌, ◌≤◌, length}
 use Rattle.mol_section.specs.Lines.{lines_of}
-use Rattle.mol_section.specs.Walk.{AtBonds}
-use Rattle.mol_section.proofs.BlockLines.{IsGraphOf}
+use Rattle.mol_section.specs.Walk.{AtBonds, IsGraphOf}
 use Rattle.mol_section.proofs.blocks.read_bonds.Given as goal
 
 abbrev pub invariant-loop : goal.invariant-loop

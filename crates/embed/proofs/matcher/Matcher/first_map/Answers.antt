@@ -1,13 +1,18 @@
-use Rattle.embed.proofs.Maps.{IsPartial-empty}
 use Rattle.embed.proofs.Bridge.{IsLeastEmbedding-from, NoEmbedding-from}
 use Rattle.embed.proofs.matcher.Matcher.first_map.Goals as goal
-
-pub search-requires : goal.search-requires
-search-requires c = IsPartial-empty _ _ _ c.self.invariant.0 c.clear.ensures
+use Rattle.embed.proofs.matcher.Matcher.first_map.Goals.{in-Yes, in-No}
+use Rattle.std.proofs.Common.{rules}
 
 pub returns-clause-least : goal.returns-clause-least
-returns-clause-least c = λ found. IsLeastEmbedding-from _ _ _ _ _ c.self.view_is c.requires c.clear.ensures
-    (c.search.ensures.found found)
+returns-clause-least c = λ found. elim c.match-search.branch [
+  | in-Yes w ↦ IsLeastEmbedding-from _ _ _ _ _ c.self.view_is c.requires.marked c.clear.ensures
+      (w.in-Yes.ensures.found (search rules))
+  | in-No w ↦ absurd cc
+]
 
 pub returns-clause-none : goal.returns-clause-none
-returns-clause-none c = λ none. NoEmbedding-from _ _ _ _ c.self.view_is c.clear.ensures (c.search.ensures.stuck none)
+returns-clause-none c = λ none. elim c.match-search.branch [
+  | in-Yes w ↦ absurd cc
+  | in-No w ↦ NoEmbedding-from _ _ _ _ c.self.view_is c.requires.marked c.clear.ensures
+      (w.in-No.ensures.stuck (search rules))
+]

@@ -1,0 +1,15 @@
+use Rattle.std.proofs.Common.{rules}
+use Rattle.embed.proofs.Bridge.{IsLeastEmbedding-from, NoEmbedding-from}
+use Rattle.embed.proofs.matcher.Matcher.least_map.Goals as goal
+use Rattle.embed.proofs.matcher.Matcher.least_map.Goals.{then-eq, else-eq}
+
+pub returns-clause-yes : goal.returns-clause-yes
+returns-clause-yes c = λ found. elim c.if-eq.branch [
+  | then-eq w ↦ absurd (search rules)
+  | else-eq w ↦ rw w.map-is (IsLeastEmbedding-from _ _ _ _ _ c.self.view_is c.requires.marked c.clear.ensures
+      (c.search-found.ensures.found found))
+]
+
+pub returns-clause-no : goal.returns-clause-no
+returns-clause-no c = λ none. NoEmbedding-from _ _ _ _ c.self.view_is c.requires.marked c.clear.ensures
+    (c.search-found.ensures.stuck none)

@@ -1,0 +1,4 @@
+pub mod BondCounts
+pub mod Near
+pub mod Walks
+pub mod Coders

@@ -1,0 +1,7 @@
+mod Injections
+mod Embeddings
+mod LaneWords
+mod Asked
+mod Sureness
+mod Pivots
+mod Covering

@@ -1,0 +1,13 @@
+//! What an atom of a query needs of the codes of an atom of a molecule, and which codes cover it.
+#![tactic(auto)]
+
+mod cover;
+mod law;
+mod needs;
+mod sure;
+#[cfg(test)]
+mod tests;
+
+pub use cover::covers;
+pub use law::law_of_cover;
+pub use needs::{Needs, need_of, pivot};

@@ -1,0 +1,10 @@
+pub mod Examples
+pub mod ListSets
+pub mod QueryPassing
+pub mod Steps
+pub mod QueryBlocks
+pub mod QueryBonds
+pub mod Told
+pub mod Bare
+pub mod QueryEnds
+pub mod Joined

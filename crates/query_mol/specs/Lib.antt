@@ -1,0 +1,9 @@
+pub mod QueryLines
+pub mod QueryRecord
+pub mod ListWords
+pub mod LineFacts
+pub mod Tests
+pub mod QueryWalk
+pub mod QueryStops
+pub mod QueryAtoms
+pub mod QueryOutcome

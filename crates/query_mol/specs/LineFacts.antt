@@ -1,0 +1,50 @@
+-- What an atom line and a bond line say, and what the reader keeps of them.
+use Rattle.std.specs.Prelude.{◌≡◌, ℕ, List, [], ◌∷◌, Option, None, Some, unwrap_or, IfSome, is_some, not, ◌&&◌, ◌==◌, nat_le, All, if◌then◌else◌}
+use Rattle.std.specs.Str.{bytes_eq}
+use lib.Chars.{codes}
+use Rattle.htss_defs.specs.declared.query.AtomTest.{AtomTest}
+use Rattle.htss_defs.specs.declared.query.QueryBond.{QueryBond}
+use Rattle.htss_defs.specs.Graph.{Graph, AreApart}
+use Rattle.htss_defs.specs.Molecule.{IsAtom}
+use Rattle.htss_defs.specs.QueryGraph.{IsAtomTest, IsQueryBond, query_bond_ends}
+use Rattle.mol_section.specs.Fields.{field, number_of}
+use Rattle.mol_section.specs.SectionLines.{first_code, is_place, bond_first, bond_second, bond_kind, ends_of, symbol_value, charge_value}
+use Rattle.mol_section.specs.BondLines.{is_taken}
+use Rattle.query_mol.specs.declared.atoms.AtomLine.{AtomLine}
+use Rattle.query_mol.specs.QueryLines.{query_atom_refusal, topology_value}
+use Rattle.query_mol.specs.QueryRecord.{symbol_test, query_bond_of}
+
+-- the element and the mass of a symbol, or 0 and 0
+abbrev pub value_or_none : List ℕ → ℕ × ℕ
+value_or_none symbol = unwrap_or (symbol_value symbol) (0, 0)
+
+-- the test that a symbol gives by itself: L waits for a list
+unfoldable pub told_symbol : List ℕ → Option AtomTest
+told_symbol symbol = if bytes_eq symbol (codes "L") then None else Some (symbol_test symbol)
+
+-- the line is accepted, and says this of its atom
+pub record SaysQueryAtom (line : List ℕ) (says : AtomLine) : Type 0 where
+  pub passes : query_atom_refusal line ≡ None
+  pub test : says.test ≡ told_symbol (field 32 34 line)
+  pub mass : says.atom.mass ≡ (value_or_none (field 32 34 line)).1
+  pub charge : charge_value (field 37 39 line) ≡ Some says.atom.charge
+  pub element : says.atom.element ≡ 1
+  pub valid : IsAtom says.atom
+  pub valid_test : IfSome says.test IsAtomTest
+
+-- the refusal of a bond line, where the bonds before it are those of the graph
+unfoldable pub query_graph_refusal : Graph → List ℕ → Option ℕ
+query_graph_refusal graph line = first_code (
+    (is_some (number_of (field 1 3 line)) && is_some (number_of (field 4 6 line)) && is_some (number_of (field 7 9 line)), 7)
+    ∷ (is_place graph.atoms (bond_first line) && is_place graph.atoms (bond_second line) && not (bond_first line == bond_second line), 8)
+    ∷ (nat_le 1 (bond_kind line) && nat_le (bond_kind line) 8, 9)
+    ∷ (not (is_taken graph.bonds (ends_of line)), 10)
+    ∷ (is_some (topology_value (field 16 18 line)), 22)
+    ∷ [])
+
+-- the line is accepted, and says this of its bond
+pub record SaysQueryBond (graph : Graph) (line : List ℕ) (bond : QueryBond) : Type 0 where
+  pub passes : query_graph_refusal graph line ≡ None
+  pub says : bond ≡ query_bond_of line
+  pub valid : IsQueryBond graph.atoms bond
+  pub apart : All (λ e. AreApart e (query_bond_ends bond)) graph.bonds
