@@ -1,3 +1,4 @@
 pub mod HitLines
 pub mod RecordLines
 pub mod Appends
+pub mod CodesLines

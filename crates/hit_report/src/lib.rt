@@ -2,10 +2,12 @@
 #![tactic(auto)]
 
 mod append;
+mod codes_lines;
 mod hit_lines;
 mod record_lines;
 #[cfg(test)]
 mod tests;
 
+pub use codes_lines::push_codes;
 pub use hit_lines::{push_count, push_hit, push_overbudget};
 pub use record_lines::{code_word, push_ok, push_query_refused, push_records, push_refused};

@@ -1,7 +1,9 @@
 // The lines as they are printed.
 use crate::{
-    push_count, push_hit, push_ok, push_overbudget, push_query_refused, push_records, push_refused,
+    push_codes, push_count, push_hit, push_ok, push_overbudget, push_query_refused, push_records,
+    push_refused,
 };
+use htss_defs::Codes;
 use std::test::Fail;
 
 #[test]
@@ -41,6 +43,30 @@ fn lines_of_records_are_appended(rt: HostRuntime) -> Result<(), Fail> {
     assert_eq!(rt;
         text.as_slice(),
         b"ok 1 3 2 ethanol\nok 2 1 0\nrefused 3 18446744073709551615 9 BondType\nrecords 3 ok 2 refused 1\n".as_slice()
+    );
+    Ok(())
+}
+
+#[test]
+fn lines_of_codes_are_appended(rt: HostRuntime) -> Result<(), Fail> {
+    let mut text = Vec::new(rt.alloc());
+    let carbon = Codes {
+        words: [6, 65793, 65793, 65793, 65793],
+    };
+    let digits = Codes {
+        words: [
+            81985529216486895,
+            18446744073709551615,
+            0,
+            9223372036854775808,
+            11259375,
+        ],
+    };
+    push_codes(&mut text, 1, &carbon)?;
+    push_codes(&mut text, 999, &digits)?;
+    assert_eq!(rt;
+        text.as_slice(),
+        b"1 0000000000000006 0000000000010101 0000000000010101 0000000000010101 0000000000010101\n999 0123456789abcdef ffffffffffffffff 0000000000000000 8000000000000000 0000000000abcdef\n".as_slice()
     );
     Ok(())
 }

@@ -1,5 +1,10 @@
 pub mod Publications
+pub mod Deciding
+pub mod ScreenedRecords
+pub mod Searching
 pub mod Taken
 pub mod Writing
 pub mod Causes
 pub mod Streams
+pub mod Numerals
+pub mod CodesLines

@@ -18,11 +18,11 @@ use Rattle.htss_defs.specs.History.{Withdraws, IsLive, publications}
 use Rattle.htss_defs.specs.Hits.{IsHit, AreHits, numbers}
 
 -- the record of this number
-record IsRecord (es : List NamedMol) (number : ℕ) (name : List ℕ) (mol : Molecule) : Type 0 where
-  low : 1 ≤ number
-  high : number ≤ length es
-  name_is : (d : NamedMol) → (get_or es (number - 1) d).name ≡ name
-  mol_is : (d : NamedMol) → (get_or es (number - 1) d).mol ≡ mol
+pub record IsRecord (es : List NamedMol) (number : ℕ) (name : List ℕ) (mol : Molecule) : Type 0 where
+  pub low : 1 ≤ number
+  pub high : number ≤ length es
+  pub name_is : (d : NamedMol) → (get_or es (number - 1) d).name ≡ name
+  pub mol_is : (d : NamedMol) → (get_or es (number - 1) d).mol ≡ mol
 
 publication : NamedMol → Event
 publication e = Publish 1 e.name e.mol
@@ -40,7 +40,7 @@ published_at es k d within = slice_get-map (λ e. Publish 1 e.name e.mol) es k �
 same_name : (c₁ c₂ : ℕ) (n₁ n₂ : List ℕ) (m₁ m₂ : Molecule) → Some (Publish c₁ n₁ m₁) ≡ Some (Publish c₂ n₂ m₂) → (n₁ ≡ n₂) × (m₁ ≡ m₂)
 same_name c₁ c₂ n₁ n₂ m₁ m₂ e = ((cc), (cc))
 
-record_of-live : (es : List NamedMol) (number : ℕ) (name : List ℕ) (mol : Molecule) → IsLive (publications es) number name mol → IsRecord es number name mol
+pub record_of-live : (es : List NamedMol) (number : ℕ) (name : List ℕ) (mol : Molecule) → IsLive (publications es) number name mol → IsRecord es number name mol
 record_of-live es number name mol live =
     let event = live.published.event in
     let within : number - 1 < length es = omega (arith, slice_get_within (publications es) (number - 1) (Publish live.published.caller name mol) event.1, length-map es (λ e. Publish 1 e.name e.mol)) in
@@ -51,18 +51,18 @@ record_of-live es number name mol live =
       mol_is = λ d. (same_name _ _ _ _ _ _ (sym (published_at es (number - 1) d within) ∙ event.1)).1;
     }
 
-live-record : (es : List NamedMol) (number : ℕ) (d : NamedMol) → 1 ≤ number → number ≤ length es → IsLive (publications es) number (get_or es (number - 1) d).name (get_or es (number - 1) d).mol
+pub live-record : (es : List NamedMol) (number : ℕ) (d : NamedMol) → 1 ≤ number → number ≤ length es → IsLive (publications es) number (get_or es (number - 1) d).name (get_or es (number - 1) d).mol
 live-record es number d low high = record {
   published = record { caller = 1; event = (low, published_at es (number - 1) d (omega (arith, low))) };
   stays = λ later w. no_withdrawal es later number w;
 }
 
-live-same : (es : List NamedMol) (number : ℕ) (name name' : List ℕ) (mol mol' : Molecule) → name ≡ name' → mol ≡ mol' → IsLive (publications es) number name mol → IsLive (publications es) number name' mol'
+pub live-same : (es : List NamedMol) (number : ℕ) (name name' : List ℕ) (mol mol' : Molecule) → name ≡ name' → mol ≡ mol' → IsLive (publications es) number name mol → IsLive (publications es) number name' mol'
 live-same es number name name' mol mol' n m live =
     subst (λ (x : Molecule). IsLive (publications es) number name' x) m (subst (λ (x : List ℕ). IsLive (publications es) number x mol) n live)
 
 -- a live record stays live when one more is published
-live-more : (es : List NamedMol) (e : NamedMol) (number : ℕ) (name : List ℕ) (mol : Molecule) → IsLive (publications es) number name mol → IsLive (publications (es ++ e ∷ [])) number name mol
+pub live-more : (es : List NamedMol) (e : NamedMol) (number : ℕ) (name : List ℕ) (mol : Molecule) → IsLive (publications es) number name mol → IsLive (publications (es ++ e ∷ [])) number name mol
 live-more es e number name mol live =
     let r = record_of-live es number name mol live in
     let same : get_or (es ++ e ∷ []) (number - 1) e ≡ get_or es (number - 1) e = get_or_append_left es (e ∷ []) e (number - 1) (omega (arith, r.low, r.high)) in
@@ -70,7 +70,7 @@ live-more es e number name mol live =
     (live-record (es ++ e ∷ []) number e r.low (omega (arith, r.high, length_push es e)))
 
 -- the record that was published last, or one that was live before
-live-cases : (es : List NamedMol) (e : NamedMol) (number : ℕ) (name : List ℕ) (mol : Molecule) → IsLive (publications (es ++ e ∷ [])) number name mol
+pub live-cases : (es : List NamedMol) (e : NamedMol) (number : ℕ) (name : List ℕ) (mol : Molecule) → IsLive (publications (es ++ e ∷ [])) number name mol
     → IsLive (publications es) number name mol ⊎ ((number ≡ length es + 1) × (e.name ≡ name) × (e.mol ≡ mol))
 live-cases es e number name mol live =
     let r = record_of-live (es ++ e ∷ []) number name mol live in
@@ -105,7 +105,7 @@ hits-passed q es e hits are none = record {
 }
 
 -- a number above all others at the end
-rising-push : (xs : List ℕ) (n : ℕ) → IsStrictlyIncreasing xs → All (λ x. x < n) xs → IsStrictlyIncreasing (xs ++ n ∷ [])
+pub rising-push : (xs : List ℕ) (n : ℕ) → IsStrictlyIncreasing xs → All (λ x. x < n) xs → IsStrictlyIncreasing (xs ++ n ∷ [])
 rising-push xs n rising below k within =
     let len = length_push xs n in
     elim (cases_lt (k + 1) (length xs)) [

@@ -1,21 +1,15 @@
 -- One more record is taken.
 use Rattle.std.proofs.Common.{◌≡◌, ℕ, ◌+◌, List, [], ◌∷◌, ◌++◌, length, refl, sym, ap, subst, ◌∙◌, append_assoc, arith}
-use Rattle.std.specs.List.{flat_map}
+use Rattle.std.specs.Prelude.{Option}
 use Rattle.std.proofs.lemmas.List.{append-nil, length-append, length_push}
-use Rattle.std.proofs.lemmas.Grind.{flat_map-append}
-use Rattle.htss_defs.specs.declared.history.Hit.{Hit}
 use Rattle.htss_defs.specs.declared.record.NamedMol.{NamedMol}
 use Rattle.htss_defs.specs.Molecule.{Molecule}
 use Rattle.htss_defs.specs.QueryGraph.{QueryGraph}
-use Rattle.htss_defs.specs.Embedding.{IsLeastEmbedding, NoEmbedding}
-use Rattle.htss_defs.specs.History.{publications}
-use Rattle.htss_defs.specs.Hits.{AreHits}
-use Rattle.hit_report.specs.HitLines.{hit_line}
 use Rattle.hit_report.specs.RecordLines.{ok_line, refused_line, records_line}
 use Rattle.mol_section.specs.SectionRecord.{Outcome, accepted, refused}
 use Rattle.htss_main.specs.RecordTexts.{accepted_records, refused_count, refused_lines, record_lines, check_text}
+use Rattle.htss_main.specs.Searches.{SearchHolds}
 use Rattle.htss_main.specs.Takers.{CheckHolds, FindHolds}
-use Rattle.htss_main.proofs.Publications.{hits-none, hits-passed, hits-hit}
 
 -- ---- the words on a list with one more outcome
 
@@ -97,57 +91,30 @@ check_text-from text whole a r place outcomes holds sum grown =
 
 -- ---- `find`
 
-pub FindHolds-none : (query : QueryGraph) → FindHolds query [] [] 0 0 []
-FindHolds-none query = record { refused_is = refl; hits = []; are = hits-none query; lines = refl; count_is = refl; number_is = refl }
+pub FindHolds-none : (query : QueryGraph) (budget : ℕ) (left : Option ℕ) (lines : List ℕ) (count number : ℕ) → SearchHolds query budget left lines count [] → number ≡ 0 → FindHolds query budget [] left lines count number []
+FindHolds-none query budget left lines count number holds none = record { refused_is = refl; search = holds; number_is = none }
 
--- an accepted record has no line among the refused ones
-same_refused : (refused_text : List ℕ) (name : List ℕ) (mol : Molecule) (outcomes : List Outcome) → refused_text ≡ refused_lines 1 outcomes → refused_text ≡ refused_lines 1 (outcomes ++ accepted name mol ∷ [])
-same_refused refused_text name mol outcomes is = is ∙ sym (refused_lines-push 1 outcomes (accepted name mol) ∙ append-nil (refused_lines 1 outcomes))
-
-pub FindHolds-hit : (query : QueryGraph) (refused_text lines longer : List ℕ) (count count' number number' : ℕ) (shown name map : List ℕ) (mol : Molecule) (outcomes : List Outcome) → FindHolds query refused_text lines count number outcomes
-    → IsLeastEmbedding query mol map → shown ≡ name → number' ≡ number + 1 → longer ≡ lines ++ hit_line (record { number = number'; name = shown; map = map }) → count' ≡ count + 1
-    → FindHolds query refused_text longer count' number' (outcomes ++ accepted name mol ∷ [])
-FindHolds-hit query refused_text lines longer count count' number number' shown name map mol outcomes holds least name-is number-is grown more =
-    let hit : Hit = record { number = number'; name = shown; map = map } in
+pub FindHolds-accepted : (query : QueryGraph) (budget : ℕ) (refused_text : List ℕ) (left left' : Option ℕ) (lines lines' : List ℕ) (count count' number number' : ℕ) (name : List ℕ) (mol : Molecule) (outcomes : List Outcome)
+    → FindHolds query budget refused_text left lines count number outcomes → SearchHolds query budget left' lines' count' (accepted_records outcomes ++ record { name = name; mol = mol } ∷ []) → number' ≡ number + 1
+    → FindHolds query budget refused_text left' lines' count' number' (outcomes ++ accepted name mol ∷ [])
+FindHolds-accepted query budget refused_text left left' lines lines' count count' number number' name mol outcomes holds search number-is =
     let e : NamedMol = record { name = name; mol = mol } in
     let pushed = accepted_records-push outcomes (accepted name mol) in
     record {
-      refused_is = same_refused refused_text name mol outcomes holds.refused_is;
-      hits = holds.hits ++ hit ∷ [];
-      are = subst (λ (x : List NamedMol). AreHits query (publications x) (holds.hits ++ hit ∷ [])) (sym pushed)
-          (hits-hit query (accepted_records outcomes) e holds.hits hit holds.are (omega (arith, number-is, holds.number_is)) name-is least);
-      lines = grown ∙ ap (λ (x : List ℕ). x ++ hit_line hit) holds.lines ∙ ap (λ (x : List ℕ). flat_map hit_line holds.hits ++ x) (sym (append-nil (hit_line hit)))
-          ∙ sym (flat_map-append hit_line holds.hits (hit ∷ []));
-      count_is = omega (arith, more, holds.count_is, length_push holds.hits hit);
+      refused_is = holds.refused_is ∙ sym (refused_lines-push 1 outcomes (accepted name mol) ∙ append-nil (refused_lines 1 outcomes));
+      search = subst (λ (x : List NamedMol). SearchHolds query budget left' lines' count' x) (sym pushed) search;
       number_is = omega (arith, number-is, holds.number_is, ap length pushed, length_push (accepted_records outcomes) e);
     }
 
-pub FindHolds-passed : (query : QueryGraph) (refused_text lines : List ℕ) (count number number' : ℕ) (name : List ℕ) (mol : Molecule) (outcomes : List Outcome) → FindHolds query refused_text lines count number outcomes
-    → NoEmbedding query mol → number' ≡ number + 1 → FindHolds query refused_text lines count number' (outcomes ++ accepted name mol ∷ [])
-FindHolds-passed query refused_text lines count number number' name mol outcomes holds none number-is =
-    let e : NamedMol = record { name = name; mol = mol } in
-    let pushed = accepted_records-push outcomes (accepted name mol) in
-    record {
-      refused_is = same_refused refused_text name mol outcomes holds.refused_is;
-      hits = holds.hits;
-      are = subst (λ (x : List NamedMol). AreHits query (publications x) holds.hits) (sym pushed) (hits-passed query (accepted_records outcomes) e holds.hits holds.are none);
-      lines = holds.lines;
-      count_is = holds.count_is;
-      number_is = omega (arith, number-is, holds.number_is, ap length pushed, length_push (accepted_records outcomes) e);
-    }
-
-pub FindHolds-refused : (query : QueryGraph) (refused_text longer lines : List ℕ) (count number place line code : ℕ) (outcomes : List Outcome) → FindHolds query refused_text lines count number outcomes
-    → place ≡ length outcomes + 1 → longer ≡ refused_text ++ refused_line place line code → FindHolds query longer lines count number (outcomes ++ refused line code ∷ [])
-FindHolds-refused query refused_text longer lines count number place line code outcomes holds at grown =
+pub FindHolds-refused : (query : QueryGraph) (budget : ℕ) (refused_text longer : List ℕ) (left : Option ℕ) (lines : List ℕ) (count number place line code : ℕ) (outcomes : List Outcome) → FindHolds query budget refused_text left lines count number outcomes
+    → place ≡ length outcomes + 1 → longer ≡ refused_text ++ refused_line place line code → FindHolds query budget longer left lines count number (outcomes ++ refused line code ∷ [])
+FindHolds-refused query budget refused_text longer left lines count number place line code outcomes holds at grown =
     let pushed = accepted_records-push outcomes (refused line code) ∙ append-nil (accepted_records outcomes) in
     record {
       refused_is = grown
           ∙ ap (λ (x : List ℕ). x ++ refused_line place line code) holds.refused_is
           ∙ ap (λ (x : List ℕ). refused_lines 1 outcomes ++ x) (ap (λ (p : ℕ). refused_line p line code) (omega (arith, at)) ∙ sym (append-nil (refused_line (1 + length outcomes) line code)))
           ∙ sym (refused_lines-push 1 outcomes (refused line code));
-      hits = holds.hits;
-      are = subst (λ (x : List NamedMol). AreHits query (publications x) holds.hits) (sym pushed) holds.are;
-      lines = holds.lines;
-      count_is = holds.count_is;
+      search = subst (λ (x : List NamedMol). SearchHolds query budget left lines count x) (sym pushed) holds.search;
       number_is = holds.number_is ∙ ap length (sym pushed);
     }

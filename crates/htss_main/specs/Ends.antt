@@ -5,9 +5,9 @@ use Rattle.htss_defs.specs.QueryGraph.{QueryGraph}
 use Rattle.outside.specs.Files.{File, IsLarge}
 use Rattle.outside.specs.Causes.{Rose, IsAbsent}
 use Rattle.outside.specs.Written.{GrewByFront}
-use Rattle.htss_main.specs.Tasks.{Task, check_of, find_in, task_of}
+use Rattle.htss_main.specs.Tasks.{Task, check_of, codes_of, find_in, task_of}
 use Rattle.htss_main.specs.Outcomes.{Outcome, done, not_a_command, out_of_memory, read_failed, file_absent, file_too_large, status_of, text_of}
-use Rattle.htss_main.specs.FindText.{IsCheckText, IsFindText, QueryWasRead}
+use Rattle.htss_main.specs.FindText.{IsCheckText, IsCodesText, IsFindText, QueryWasRead}
 
 -- what a shelf tells and has counted at one moment
 pub record ShelfSeen : Type 0 where
@@ -35,14 +35,16 @@ pub record ShelfGoesOn (before now : ShelfSeen) : Type 0 where
 
 -- the task comes to read this file: of `find` the query first, and the SDfile where the query was read and is not refused
 abbrev pub ComesToRead : Option (List File) → Task → List ℕ → Type 0
-ComesToRead told (find_in sdf query) name =
+ComesToRead told (find_in sdf query budget) name =
     (name ≡ query) ⊎ ((name ≡ sdf) × (asked : QueryGraph) × QueryWasRead told query (Ok asked))
 ComesToRead told (check_of sdf) name = name ≡ sdf
+ComesToRead told (codes_of mol) name = name ≡ mol
 
 -- the text is one that the task may have
 abbrev pub IsTextOf : Option (List File) → Task → List ℕ → Type 0
-IsTextOf told (find_in sdf query) text = IsFindText told sdf query text
+IsTextOf told (find_in sdf query budget) text = IsFindText told sdf query budget text
 IsTextOf told (check_of sdf) text = IsCheckText told sdf text
+IsTextOf told (codes_of mol) text = IsCodesText told mol text
 
 -- between these moments the task may come out so: each outcome has its cause, but for want of memory
 abbrev pub MayComeOut : Option Task → ShelfSeen → ShelfSeen → Outcome → Type 0

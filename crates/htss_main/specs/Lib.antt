@@ -3,4 +3,5 @@ pub mod Outcomes
 pub mod RecordTexts
 pub mod FindText
 pub mod Ends
+pub mod Searches
 pub mod Takers

@@ -1,92 +1,76 @@
-// `find`: the lines of the refused records and of the hits among the others.
-ghost use Rattle.std.specs.Prelude.{◌≡◌, ◌≤◌, ℕ, List, [], Some, ◌++◌, IfOk};
+// `find`: the lines of the refused records, and what a search of the others answers.
+ghost use Rattle.std.specs.Prelude.{◌≡◌, ◌≤◌, List, [], Some, ◌++◌, IfOk};
+ghost use Rattle.htss_defs.specs.History.{publications};
+ghost use Rattle.htss_defs.specs.Reply.{Reply, IsReply};
 ghost use Rattle.mol_section.specs.SectionRecord.{Outcome};
 ghost use Rattle.htss_main.specs.RecordTexts.{accepted_records, refused_lines};
-ghost use Rattle.htss_main.specs.FindText.{IsHitsText};
+ghost use Rattle.htss_main.specs.FindText.{reply_text};
 
+use crate::search::Search;
 use crate::taker::Taker;
-use arrayvec::ArrayVec;
-use embed::Matcher;
-use hit_report::{push_count, push_hit, push_refused};
+use hit_report::push_refused;
 use htss_defs::{Mol, Name, OutOfMemory, Query};
 use std::alloc::Global;
 
 #[derive(Drop)]
 pub struct FindTaker<'a> {
-    matcher: Matcher<'a>,
-    map: ArrayVec<u16, 64>,
     refused: Vec<u8>,
-    hits: Vec<u8>,
-    // the hits
-    count: u32,
-    // the accepted records
-    number: u32,
+    // of the accepted records
+    search: Search<'a>,
     place: u32,
-    ghost counted: { count ≤ number },
-    ghost numbered: { number ≤ place },
+    ghost numbered: { search.number ≤ place },
 }
 
 impl<'a> FindTaker<'a> {
     ghost use Rattle.htss_main.specs.Takers.{FindHolds};
 
     /// No record was taken.
-    pub fn new(alloc: Global, query: &'a Query) -> FindTaker<'a>
-        ensures holds { FindHolds query.now result.refused.items result.hits.items result.count result.number [] }
-        ensures asked { result.matcher ≡ query.now }
+    pub fn new(alloc: Global, query: &'a Query, budget: u64) -> FindTaker<'a>
+        ensures holds { FindHolds query.now budget result.refused.items
+            result.search.left result.search.lines.items result.search.count result.search.number [] }
+        ensures asked { result.search.matcher ≡ query.now }
+        ensures budget { result.search.budget ≡ budget }
         ensures place { result.place ≡ 0 }
     {
         FindTaker {
-            matcher: Matcher::new(query),
-            map: ArrayVec::new(),
             refused: Vec::new(alloc),
-            hits: Vec::new(alloc),
-            count: 0,
-            number: 0,
+            search: Search::new(alloc, query, budget),
             place: 0,
         }
     }
 
-    /// The lines of the refused records, and the text of the hits among the others.
+    /// The lines of the refused records, and the text of the answer.
     pub fn text(self) -> Result<Vec<u8>, OutOfMemory>
         ensures { IfOk result (λ text. (outcomes : List Outcome)
-            → FindHolds self.entry.matcher self.entry.refused.items self.entry.hits.items
-            self.entry.count self.entry.number outcomes
-            → (hits : List ℕ) × IsHitsText self.entry.matcher (accepted_records outcomes) hits
-            × (text.items ≡ refused_lines 1 outcomes ++ hits)) }
+            → FindHolds self.entry.search.matcher self.entry.search.budget self.entry.refused.items
+            self.entry.search.left self.entry.search.lines.items self.entry.search.count self.entry.search.number outcomes
+            → (reply : Reply) × IsReply self.entry.search.matcher self.entry.search.budget
+            (publications (accepted_records outcomes)) reply
+            × (text.items ≡ refused_lines 1 outcomes ++ reply_text self.entry.search.budget reply)) }
     {
         let FindTaker {
-            mut refused,
-            mut hits,
-            count,
+            refused: mut text,
+            search,
             ..
         } = self;
-        push_count(&mut hits, count)?;
-        refused.extend_from_slice(&hits)?;
-        Ok(refused)
+        search.push_text(&mut text)?;
+        Ok(text)
     }
 }
 
 impl<'a> Taker for FindTaker<'a> {
     ghost use Rattle.htss_main.specs.Takers.{FindHolds};
 
-    ghost holds = { λ t. FindHolds t.matcher t.refused.items t.hits.items t.count t.number };
+    ghost holds = { λ t. FindHolds t.search.matcher t.search.budget t.refused.items
+        t.search.left t.search.lines.items t.search.count t.search.number };
 
-    ghost asked = { λ t. Some t.matcher };
+    ghost asked = { λ t. Some (record { query = t.search.matcher; budget = t.search.budget }) };
 
     ghost taken = { λ t. t.place };
 
     fn accept(&mut self, place: u32, name: &Name, mol: &Mol) -> Result<(), OutOfMemory> {
-        let number = self.number + 1;
-        if !self.matcher.first_map(mol, &mut self.map) {
-            self.number = number;
-            self.place = place;
-            return Ok(());
-        }
-        push_hit(&mut self.hits, number, self.map.as_slice(), name.bytes())?;
-        self.count += 1;
-        self.number = number;
         self.place = place;
-        Ok(())
+        self.search.take(name, mol)
     }
 
     fn refuse(&mut self, place: u32, line: u64, code: u8) -> Result<(), OutOfMemory> {

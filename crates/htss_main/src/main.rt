@@ -1,14 +1,16 @@
 //! `htss`: a compound registry that is searched by substructure. This program finds the records of an SDfile into which
-//! a query molecule embeds, and checks the records of an SDfile.
+//! a query molecule embeds, checks the records of an SDfile, and tells the codes of the atoms of a molfile.
 #![tactic(auto)]
 
 mod check_taker;
 #[cfg(test)]
 mod check_tests;
+mod codes;
 mod find_taker;
 mod list;
 #[cfg(test)]
 mod query_tests;
+mod search;
 mod stop;
 mod taker;
 #[cfg(test)]

@@ -268,6 +268,28 @@ fn charges_and_masses_are_asked_for(rt: HostRuntime) -> Result<(), Fail> {
 }
 
 #[test]
+fn each_atom_of_a_record_may_stand_for_the_query(rt: HostRuntime) -> Result<(), Fail> {
+    let rows = [
+        Row {
+            record: ETHANOL,
+            query: &[ONE, O, "M  END"],
+            text: "hit 1 3\nhits 1\n",
+        },
+        Row {
+            record: WATER_CARBON,
+            query: &[ONE, H, "M  END"],
+            text: "hit 1 1\nhits 1\n",
+        },
+        Row {
+            record: WATER_CARBON,
+            query: &[ONE, N, "M  END"],
+            text: "hits 0\n",
+        },
+    ];
+    are_found(&rt, rt.alloc(), &rows)
+}
+
+#[test]
 fn a_query_that_is_refused_has_its_line_alone(rt: HostRuntime) -> Result<(), Fail> {
     let rows = [
         Row {

@@ -1,8 +1,8 @@
 // What takes the records of a file, one after the other.
 ghost use Rattle.std.specs.Prelude.{◌≡◌, ℕ, ◌+◌, ◌++◌, ◌∷◌, [], List, Option, length, OnOk};
 ghost use Rattle.htss_defs.specs.Marked.{IsMarked};
-ghost use Rattle.htss_defs.specs.QueryGraph.{QueryGraph};
 ghost use Rattle.mol_section.specs.SectionRecord.{Outcome, accepted, refused};
+ghost use Rattle.htss_main.specs.Searches.{Asked};
 
 use htss_defs::{Mol, Name, OutOfMemory};
 
@@ -11,8 +11,8 @@ pub trait Taker {
     /// What is kept is right for these outcomes, taken so far.
     ghost holds: { Self → List Outcome → Type 0 };
 
-    /// The query that it was made for, if any. No call changes it.
-    ghost asked: { Self → Option QueryGraph };
+    /// The query and the budget that it was made for, if any. No call changes them.
+    ghost asked: { Self → Option Asked };
 
     /// How many records were taken.
     ghost taken: { Self → ℕ };

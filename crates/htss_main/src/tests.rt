@@ -165,3 +165,104 @@ fn a_fault_of_the_outside_has_its_status(rt: HostRuntime) -> Result<(), Fail> {
     }
     Ok(())
 }
+
+#[test]
+fn a_budget_allows_the_hits_or_is_told(rt: HostRuntime) -> Result<(), Fail> {
+    let both = "hit 1 2,3 ethanol\nhit 2 1,2 ether\nhits 2\n";
+    let budgets = [
+        ("18", 0, both),
+        ("00000000000000000018", 0, both),
+        ("18446744073709551615", 0, both),
+        ("0", 0, "overbudget 0\n"),
+        ("5", 0, "overbudget 5\n"),
+        ("005", 0, "overbudget 5\n"),
+        ("", 2, "stop 2 usage\n"),
+        ("-1", 2, "stop 2 usage\n"),
+        ("+18", 2, "stop 2 usage\n"),
+        ("1_8", 2, "stop 2 usage\n"),
+        ("18446744073709551616", 2, "stop 2 usage\n"),
+        ("018446744073709551615", 2, "stop 2 usage\n"),
+    ];
+    for (budget, status, text) in budgets {
+        let words = ["find", "a.sdf", "co.mol", "--budget", budget];
+        is_right(&rt, rt.alloc(), &command(&words, status, text))?;
+    }
+    Ok(())
+}
+
+#[test]
+fn a_budget_stands_last_and_alone(rt: HostRuntime) -> Result<(), Fail> {
+    let cases = [
+        command(
+            &["find", "mixed.sdf", "c.mol", "--budget", "0"],
+            0,
+            "refused 1 7 9 BondType\noverbudget 0\n",
+        ),
+        command(&["find", "c.mol", "co.mol", "--budget", "0"], 0, "hits 0\n"),
+        command(
+            &["find", "none.sdf", "blank.sdf", "--budget", "0"],
+            0,
+            "query refused 3 12 NoEnd\n",
+        ),
+        command(
+            &["find", "a.sdf", "co.mol", "--budget"],
+            2,
+            "stop 2 usage\n",
+        ),
+        command(
+            &["find", "a.sdf", "co.mol", "--budget=18"],
+            2,
+            "stop 2 usage\n",
+        ),
+        command(
+            &["find", "--budget", "18", "a.sdf", "co.mol"],
+            2,
+            "stop 2 usage\n",
+        ),
+        command(
+            &["find", "a.sdf", "co.mol", "--budge", "18"],
+            2,
+            "stop 2 usage\n",
+        ),
+        command(
+            &["find", "a.sdf", "-co.mol", "--budget", "18"],
+            2,
+            "stop 2 usage\n",
+        ),
+    ];
+    for case in &cases {
+        is_right(&rt, rt.alloc(), case)?;
+    }
+    Ok(())
+}
+
+#[test]
+fn the_codes_of_a_molfile_are_told(rt: HostRuntime) -> Result<(), Fail> {
+    let carbon =
+        "1 0000000000000006 0000000000010101 0000000000010101 0000000000010101 0000000000010101\n";
+    let ethanol =
+        "1 0000000000000106 0000000000020202 0000000100020303 0000000100020303 0000000100020303\n2 0000000000000206 0000000100020303 0000000100020303 0000000100020303 0000000100020303\n3 0000000000000108 0000000100010202 0000000100020303 0000000100020303 0000000100020303\n";
+    let cases = [
+        command(&["codes", "c.mol"], 0, carbon),
+        command(&["codes", "ethanol.sdf"], 0, ethanol),
+        command(&["codes", "a.sdf"], 0, ethanol),
+        command(&["codes", "mixed.sdf"], 0, "refused 1 7 9 BondType\n"),
+        command(&["codes", "empty.sdf"], 0, "refused 1 1 12 NoEnd\n"),
+        command(&["codes", "none.mol"], 7, "stop 7 absent none.mol\n"),
+        command(&["codes"], 2, "stop 2 usage\n"),
+        command(&["codes", ""], 2, "stop 2 usage\n"),
+        command(&["codes", "-c.mol"], 2, "stop 2 usage\n"),
+        command(&["codes", "c.mol", "c.mol"], 2, "stop 2 usage\n"),
+    ];
+    for case in &cases {
+        is_right(&rt, rt.alloc(), case)?;
+    }
+    let failing = Case {
+        words: &["codes", "c.mol"],
+        failing: &[2],
+        zero: &[],
+        status: 4,
+        text: "stop 4 read c.mol\n",
+    };
+    is_right(&rt, rt.alloc(), &failing)
+}

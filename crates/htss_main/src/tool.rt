@@ -1,12 +1,13 @@
 // The top call without a runtime.
 ghost use Rattle.std.specs.Prelude.{◌≡◌, ℕ, ◌≤◌, List, map, length, Some, IfOk, IfErr, OnOk, OnErr, string_bytes};
-ghost use Rattle.htss_main.specs.Tasks.{Task, check_of, find_in, task_of};
+ghost use Rattle.htss_main.specs.Tasks.{Task, check_of, codes_of, find_in, task_of};
 ghost use Rattle.htss_main.specs.Outcomes.{done, stop_outcome};
-ghost use Rattle.htss_main.specs.FindText.{IsCheckText, IsFindText, IsFoundIn, QueryWasRead};
+ghost use Rattle.htss_main.specs.FindText.{IsCheckText, IsCodesText, IsFindText, IsFoundIn, QueryWasRead};
 ghost use Rattle.hit_report.specs.RecordLines.{query_refused_line};
 ghost use Rattle.htss_main.specs.Ends.{ComesToRead, Ends, IsWritten, MayComeOut, ShelfGoesOn, seen, seen_out};
 
 use crate::check_taker::CheckTaker;
+use crate::codes::codes_text;
 use crate::find_taker::FindTaker;
 use crate::list::read_list;
 use crate::stop::{Stop, read_stop, status, write_stop};
@@ -73,8 +74,9 @@ fn answer<'a, F: Shelf>(
 {
     match read_words(words) {
         None => Err(Stop::Usage),
-        Some(Command::Find { sdf, query }) => find(alloc, sdf, query, shelf),
+        Some(Command::Find { sdf, query, budget }) => find(alloc, sdf, query, budget, shelf),
         Some(Command::Check { sdf }) => check(alloc, sdf, shelf),
+        Some(Command::Codes { mol }) => codes(alloc, mol, shelf),
     }
 }
 
@@ -83,30 +85,32 @@ fn find<'a, F: Shelf>(
     alloc: Global,
     sdf: &'a str,
     query: &'a str,
+    budget: u64,
     shelf: &mut F,
 ) -> Result<Vec<u8>, Stop<'a>>
     ensures text { IfOk result (λ text.
-        IsFindText (F.told shelf.old) sdf.now query.now text.items) }
-    ensures stop { IfErr result (λ stop. MayComeOut (Some (find_in sdf.now query.now))
+        IsFindText (F.told shelf.old) sdf.now query.now budget text.items) }
+    ensures stop { IfErr result (λ stop. MayComeOut (Some (find_in sdf.now query.now budget))
         (seen F.told F.absent F.faults shelf.old) (seen F.told F.absent F.faults shelf.new)
         (stop_outcome stop)) }
     ensures goes_on { ShelfGoesOn
         (seen F.told F.absent F.faults shelf.old) (seen F.told F.absent F.faults shelf.new) }
 {
     match read_asked(alloc, query, shelf)? {
-        Ok(asked) => find_hits(alloc, sdf, &asked, shelf),
+        Ok(asked) => find_hits(alloc, sdf, &asked, budget, shelf),
         Err(refusal) => refused_text(alloc, refusal),
     }
 }
 
-// The lines of the refused records, and of the hits among the others.
+// The lines of the refused records, and what a search of the others answers.
 fn find_hits<'a, F: Shelf>(
     alloc: Global,
     sdf: &'a str,
     asked: &Query,
+    budget: u64,
     shelf: &mut F,
 ) -> Result<Vec<u8>, Stop<'a>>
-    ensures text { IfOk result (λ text. IsFoundIn (F.told shelf.old) sdf.now asked.now text.items) }
+    ensures text { IfOk result (λ text. IsFoundIn (F.told shelf.old) sdf.now asked.now budget text.items) }
     ensures stop { IfErr result (λ stop. (task : Task) → ComesToRead (F.told shelf.old) task sdf.now
         → MayComeOut (Some task)
         (seen F.told F.absent F.faults shelf.old) (seen F.told F.absent F.faults shelf.new)
@@ -114,7 +118,7 @@ fn find_hits<'a, F: Shelf>(
     ensures goes_on { ShelfGoesOn
         (seen F.told F.absent F.faults shelf.old) (seen F.told F.absent F.faults shelf.new) }
 {
-    let mut taker = FindTaker::new(alloc, asked);
+    let mut taker = FindTaker::new(alloc, asked, budget);
     read_list(alloc, sdf, shelf, &mut taker)?;
     match taker.text() {
         Ok(text) => Ok(text),
@@ -139,6 +143,25 @@ fn check<'a, F: Shelf>(alloc: Global, sdf: &'a str, shelf: &mut F) -> Result<Vec
     }
 }
 
+// The text of `codes`.
+fn codes<'a, F: Shelf>(alloc: Global, mol: &'a str, shelf: &mut F) -> Result<Vec<u8>, Stop<'a>>
+    ensures text { IfOk result (λ text. IsCodesText (F.told shelf.old) mol.now text.items) }
+    ensures stop { IfErr result (λ stop. MayComeOut (Some (codes_of mol.now))
+        (seen F.told F.absent F.faults shelf.old) (seen F.told F.absent F.faults shelf.new)
+        (stop_outcome stop)) }
+    ensures goes_on { ShelfGoesOn
+        (seen F.told F.absent F.faults shelf.old) (seen F.told F.absent F.faults shelf.new) }
+{
+    let molfile = match read_whole(alloc, shelf, mol) {
+        Ok(molfile) => molfile,
+        Err(stop) => return Err(read_stop(stop, mol)),
+    };
+    match codes_text(alloc, &molfile) {
+        Ok(text) => Ok(text),
+        Err(OutOfMemory) => Err(Stop::Memory),
+    }
+}
+
 // The line of a query that is refused.
 fn refused_text<'a>(alloc: Global, refusal: QueryRefusal) -> Result<Vec<u8>, Stop<'a>>
     ensures text { IfOk result (λ text. text.items ≡ query_refused_line refusal.line refusal.code) }
@@ -158,7 +181,8 @@ fn read_asked<'a, F: Shelf>(
     shelf: &mut F,
 ) -> Result<Result<Query, QueryRefusal>, Stop<'a>>
     ensures read { IfOk result (λ outcome. QueryWasRead (F.told shelf.old) name.now outcome) }
-    ensures stop { IfErr result (λ stop. (sdf : List ℕ) → MayComeOut (Some (find_in sdf name.now))
+    ensures stop { IfErr result (λ stop. (sdf : List ℕ) (budget : ℕ)
+        → MayComeOut (Some (find_in sdf name.now budget))
         (seen F.told F.absent F.faults shelf.old) (seen F.told F.absent F.faults shelf.new)
         (stop_outcome stop)) }
     ensures goes_on { ShelfGoesOn
