@@ -11,11 +11,7 @@ trap 'rm -rf "$folder"' EXIT
 sdf=$folder/made.sdf
 query=$folder/ring.mol
 python3 "$here/make_sdf.py" "$records" 7 >"$sdf"
-{
-  printf 'ring\n\n\n  6  6  0  0  0  0  0  0  0  0999 V2000\n'
-  for _ in 1 2 3 4 5 6; do printf '    0.0000    0.0000    0.0000 C   0  0\n'; done
-  printf '  1  2  1  0\n  2  3  2  0\n  3  4  1  0\n  4  5  2  0\n  5  6  1  0\n  6  1  2  0\nM  END\n'
-} >"$query"
+python3 "$here/make_queries.py" "$folder"
 "$here/../htss" find "$sdf" "$query" >"$folder/hits.txt" || exit 1
 tail -n 1 "$folder/hits.txt"
 

@@ -41,7 +41,7 @@ own-lane m x lowest is (suc (suc (suc (suc (suc (suc zero)))))) lt = refl
 own-lane m x lowest is (suc (suc (suc (suc (suc (suc (suc zero))))))) lt = refl
 own-lane m x lowest is (suc (suc (suc (suc (suc (suc (suc (suc n)))))))) lt = absurd (omega arith)
 
-own-code : (m : Molecule) (x lowest word : ℕ) → lowest ≡ element_at m x → word ≡ word_of (own_count m.bonds x lowest) → word ≡ code_at m 0 x
+pub own-code : (m : Molecule) (x lowest word : ℕ) → lowest ≡ element_at m x → word ≡ word_of (own_count m.bonds x lowest) → word ≡ code_at m 0 x
 unfolding code_at
 own-code m x lowest word is w = w ∙ word_of-congr (own_count m.bonds x lowest) (own_lane m x) (own-lane m x lowest is)
 
@@ -54,10 +54,9 @@ code-is m x = (refl, refl, refl, refl)
 near-read : (m : Molecule) (g : Graph) (lanes : List (List Bool)) (near : List ℕ) (x i k : ℕ) → g ≡ molecule_graph m → HasLanes (counts_in m) (length m.atoms) lanes → get_or near i 0 ≡ near_word g lanes x k → get_or near i 0 ≡ word_of (near_lane m k x)
 near-read m g lanes near x i k is has at = at ∙ ap (λ (h : Graph). near_word h lanes x k) is ∙ near_word-counted (molecule_graph m) (counts_in m) lanes x k has
 
-pub codes-are : (m : Molecule) (g : Graph) (lanes : List (List Bool)) (x lowest own : ℕ) (near : List ℕ) → g ≡ molecule_graph m → HasLanes (counts_in m) (length m.atoms) lanes → lowest ≡ element_at m x → own ≡ word_of (own_count m.bonds x lowest) → near ≡ near_list g lanes x
+pub codes-are : (m : Molecule) (g : Graph) (lanes : List (List Bool)) (x own : ℕ) (near : List ℕ) → g ≡ molecule_graph m → HasLanes (counts_in m) (length m.atoms) lanes → own ≡ code_at m 0 x → near ≡ near_list g lanes x
     → own ∷ get_or near 0 0 ∷ get_or near 1 0 ∷ get_or near 2 0 ∷ get_or near 3 0 ∷ [] ≡ (codes_at m x).words
-codes-are m g lanes x lowest own near is has element word all =
-    let zeroth : own ≡ code_at m 0 x = own-code m x lowest own element word in
+codes-are m g lanes x own near is has zeroth all =
     let first : get_or near 0 0 ≡ code_at m 1 x = near-read m g lanes near x 0 1 is has (ap (λ (ws : List ℕ). get_or ws 0 0) all) ∙ (code-is m x).0 in
     let second : get_or near 1 0 ≡ code_at m 2 x = near-read m g lanes near x 1 2 is has (ap (λ (ws : List ℕ). get_or ws 1 0) all) ∙ (code-is m x).1 in
     let third : get_or near 2 0 ≡ code_at m 3 x = near-read m g lanes near x 2 3 is has (ap (λ (ws : List ℕ). get_or ws 2 0) all) ∙ (code-is m x).2 in

@@ -33,6 +33,17 @@ impl BondCounts {
         }
     }
 
+    /// No bonds, whatever was counted.
+    pub fn clear(&mut self)
+        ensures { AreBondCounts [] self.new }
+    {
+        self.degree = [0; 1000];
+        self.double = [0; 1000];
+        self.triple = [0; 1000];
+        self.aromatic = [0; 1000];
+        self.ring = [0; 1000];
+    }
+
     /// Counts one more bond, at both of its ends. The cost does not depend on the bonds before.
     pub fn add(&mut self, bond: Bond)
         requires { AreEnds 999 (bond_ends bond) }

@@ -1,62 +1,69 @@
-ghost use Rattle.std.specs.Prelude.{◌≡◌, ◌≤◌, ◌<◌, length, leb};
+ghost use Rattle.std.specs.Prelude.{◌≡◌, ◌≤◌, ◌<◌, [], length, leb};
 ghost use Rattle.htss_defs.specs.Marked.{IsMarked};
-ghost use Rattle.htss_defs.specs.Codes.{codes_at, counts_in, is_of_kind};
+ghost use Rattle.htss_defs.specs.Codes.{code_at, codes_at, counts_in, is_of_kind};
 ghost use Rattle.env_code.specs.BondCounts.{AreBondCounts};
+ghost use Rattle.env_code.specs.Coders.{IsCoder};
 ghost use Rattle.env_code.specs.Near.{HasLanes, lane_row};
 
 use crate::bond_counts::BondCounts;
 use crate::kinds::is_of_kind;
 use crate::walk::{LaneTable, near_words};
 use htss_defs::{Adjacency, Codes, Mol};
-use std::marker::Model;
 
-/// A molecule whose atoms are to be coded: contracts see the molecule. It takes no memory.
+/// What the codes of a molecule are read from: its bonds at each place, their counts, and the lanes
+/// in which each atom counts. It is made once, serves for one molecule after the other, and takes no
+/// memory.
 #[derive(Drop)]
-pub struct Coder<'a> {
-    mol: &'a Mol,
+pub struct Coder {
     bonds: Adjacency,
     counts: BondCounts,
     lanes: LaneTable,
 }
 
-impl<'a> Model for Coder<'a> {
-    ghost use Rattle.htss_defs.specs.Molecule.{Molecule};
-    ghost use Rattle.env_code.specs.Coders.{IsCoder};
-
-    ghost Value = { Molecule };
-
-    ghost view = { λ c. c.mol.now };
-
-    ghost invariant = { λ c. IsCoder c.mol.now c.bonds c.counts c.lanes };
-}
-
-impl<'a> Coder<'a> {
-    /// Makes ready for a marked molecule, at the cost of its atoms and bonds.
-    pub fn new(mol: &'a Mol) -> Coder<'a>
-        requires marked { IsMarked mol.now }
-        ensures { result ≡ mol.now }
+impl Coder {
+    /// One that is of no molecule yet.
+    pub fn new() -> Coder
+        ensures { result.bonds ≡ record { atoms = 0; bonds = [] } }
     {
-        let mut bonds = Adjacency::new();
-        mol.link(&mut bonds);
-        let counts = bond_counts(mol);
-        let lanes = lanes_of(mol, &counts);
         Coder {
-            mol,
-            bonds,
-            counts,
-            lanes,
+            bonds: Adjacency::new(),
+            counts: BondCounts::new(),
+            lanes: [[false; 8]; 1000],
         }
     }
 
-    /// The codes of the atom at a place, from 1 to the number of atoms, at the cost of its
-    /// neighbourhood within distance 4.
-    pub fn codes(&self, atom: u16) -> Codes
-        requires some { 1 ≤ atom }
-        requires within { atom ≤ length self.now.atoms }
-        ensures { result ≡ codes_at self.now atom }
+    /// Makes it that of a marked molecule, whatever it was, at the cost of the atoms and bonds and
+    /// of clearing the counts.
+    pub fn load(&mut self, mol: &Mol)
+        requires marked { IsMarked mol.now }
+        ensures { IsCoder mol.now self.new }
     {
-        let element = self.mol.atoms()[atom as usize - 1].element;
-        let own = self.counts.word(atom, element);
+        mol.link(&mut self.bonds);
+        count_bonds(&mut self.counts, mol);
+        set_lanes(&mut self.lanes, mol, &self.counts);
+    }
+
+    /// The word of code 0 of the atom at a place, from 1 to the number of atoms of the molecule that
+    /// was loaded last. The cost does not depend on the molecule.
+    pub fn own_word(&self, mol: &Mol, atom: u16) -> u64
+        requires loaded { IsCoder mol.now self.now }
+        requires some { 1 ≤ atom }
+        requires within { atom ≤ length mol.now.atoms }
+        ensures { result ≡ code_at mol.now 0 atom }
+    {
+        let element = mol.atoms()[atom as usize - 1].element;
+        self.counts.word(atom, element)
+    }
+
+    /// The codes of the atom at a place, from 1 to the number of atoms of the molecule that was loaded
+    /// last, at the cost of its neighbourhood within distance 4.
+    pub fn codes(&self, mol: &Mol, atom: u16) -> Codes
+        requires loaded { IsCoder mol.now self.now }
+        requires some { 1 ≤ atom }
+        requires within { atom ≤ length mol.now.atoms }
+        ensures { result ≡ codes_at mol.now atom }
+    {
+        let own = self.own_word(mol, atom);
         let near = near_words(&self.bonds, &self.lanes, atom);
         Codes {
             words: [own, near[0], near[1], near[2], near[3]],
@@ -72,29 +79,29 @@ pub fn codes_of(mol: &Mol, atom: u16) -> Codes
     requires within { atom ≤ length mol.now.atoms }
     ensures { result ≡ codes_at mol.now atom }
 {
-    Coder::new(mol).codes(atom)
+    let mut coder = Coder::new();
+    coder.load(mol);
+    coder.codes(mol, atom)
 }
 
-fn bond_counts(mol: &Mol) -> BondCounts
-    ensures { AreBondCounts mol.now.bonds result }
+// Counts the bonds of the molecule, and those alone.
+fn count_bonds(counts: &mut BondCounts, mol: &Mol)
+    ensures { AreBondCounts mol.now.bonds counts.new }
 {
-    let mut counts = BondCounts::new();
+    counts.clear();
     for bond in mol.bonds() {
         counts.add(*bond);
     }
-    counts
 }
 
-// The lanes in which each place counts.
-fn lanes_of(mol: &Mol, counts: &BondCounts) -> LaneTable
+// Sets the lanes in which each place of the molecule counts.
+fn set_lanes(lanes: &mut LaneTable, mol: &Mol, counts: &BondCounts)
     requires { AreBondCounts mol.now.bonds counts.now }
-    ensures { HasLanes (counts_in mol.now) (length mol.now.atoms) result }
+    ensures { HasLanes (counts_in mol.now) (length mol.now.atoms) lanes.new }
 {
-    let mut lanes = [[false; 8]; 1000];
     for (index, atom) in mol.atoms().iter().enumerate() {
         lanes[index + 1] = lanes_of_atom(atom.element, counts.degree[index + 1]);
     }
-    lanes
 }
 
 fn lanes_of_atom(element: u8, degree: u8) -> [bool; 8]

@@ -205,11 +205,12 @@ fn stops_counts_at_255(rt: HostRuntime) -> Result<(), Fail> {
     if mol.atoms().len() != 301 {
         return Err("other atoms".into());
     }
-    let coder = Coder::new(&mol);
+    let mut coder = Coder::new();
+    coder.load(&mol);
     let all = 0x0100_0000_0001_01ff;
-    assert_eq!(rt; coder.codes(1).words, [0xff06, all, all, all, all]);
+    assert_eq!(rt; coder.codes(&mol, 1).words, [0xff06, all, all, all, all]);
     for hydrogen in 2..302 {
-        let words = coder.codes(hydrogen).words;
+        let words = coder.codes(&mol, hydrogen).words;
         assert_eq!(rt; words, [0x0101, 0x0100_0000_0001_0102, all, all, all]);
     }
     Ok(())

@@ -124,7 +124,7 @@ word-covers q m f u query mq valid mm e (suc (suc (suc zero))) i few lt = lanes-
 word-covers q m f u query mq valid mm e (suc (suc (suc (suc zero)))) i few lt = lanes-cover (near_need q 4 u) (near_lane m 4 (place_of f u)) i lt (near-covers q m f 4 u i query valid e)
 word-covers q m f u query mq valid mm e (suc (suc (suc (suc (suc n))))) i few lt = absurd (omega arith)
 
-element-lane : (m : Molecule) (v : ℕ) → element_at m v ≤ 118 → lane (code_at m 0 v) 0 ≡ element_at m v
+pub element-lane : (m : Molecule) (v : ℕ) → element_at m v ≤ 118 → lane (code_at m 0 v) 0 ≡ element_at m v
 unfolding code_at
 element-lane m v high = lane-word (own_lane m v) 0 (omega arith) ∙ omega arith
 

@@ -5,3 +5,4 @@ mod Asked
 mod Sureness
 mod Pivots
 mod Covering
+pub mod AtomCover

@@ -1,3 +1,4 @@
 pub mod Sure
 pub mod Reach
 pub mod Law
+pub mod Cover

@@ -1,10 +1,14 @@
-ghost use Rattle.std.specs.Prelude.{◌≡◌, ℕ, ◌<◌, ◌↔◌, IsTrue, slice_index, ◌==◌};
+ghost use Rattle.std.specs.Prelude.{◌≡◌, ℕ, ◌<◌, ◌≤◌, ◌↔◌, false, length, IsTrue, slice_index, ◌==◌};
 ghost use Rattle.std.specs.Int.{bit_at};
+ghost use Rattle.htss_defs.specs.Codes.{codes_at};
 ghost use Rattle.htss_defs.specs.Passes.{allows};
 ghost use Rattle.htss_defs.specs.Needs.{Covers};
+ghost use Rattle.env_code.specs.Coders.{IsCoder};
 ghost use Rattle.env_cover.specs.Reach.{Reaches};
+ghost use Rattle.env_cover.specs.Cover.{HasAllowed};
 
-use htss_defs::{AtomTest, Codes, Need, allows};
+use env_code::Coder;
+use htss_defs::{AtomTest, Codes, Mol, Need, allows};
 use std::simd::prelude::*;
 
 /// Whether codes cover a need: the test of the need allows the element in lane 0 of code 0, and every
@@ -15,6 +19,40 @@ pub fn covers(need: &Need, codes: &Codes) -> bool
 {
     let lowest = codes.words[0].to_le_bytes()[0];
     allows_lane(need.test, lowest) && reach_all(&need.words, &codes.words)
+}
+
+/// Whether the codes of the atom at a place, from 1 to the number of atoms of the molecule that was
+/// loaded last, cover the need. The element and then code 0 are compared first: only for an atom that
+/// passes them it costs the neighbourhood within distance 4.
+pub fn covers_atom(need: &Need, coder: &Coder, mol: &Mol, atom: u16) -> bool
+    requires loaded { IsCoder mol.now coder.now }
+    requires some { 1 ≤ atom }
+    requires within { atom ≤ length mol.now.atoms }
+    ensures { IsTrue result ↔ Covers need.now (codes_at mol.now atom) }
+{
+    let element = mol.atoms()[atom as usize - 1].element;
+    if !allows(need.test, element) {
+        return false;
+    }
+    if !reaches(need.words[0], coder.own_word(mol, atom)) {
+        return false;
+    }
+    covers(need, &coder.codes(mol, atom))
+}
+
+/// Whether the test of the need allows the element of some atom. Where it allows none, no atom's
+/// codes cover the need, and none has to be coded.
+pub fn allows_some(need: &Need, mol: &Mol) -> bool
+    ensures allowed { IsTrue result ↔ HasAllowed need.now mol.now }
+    ensures none { result ≡ false → (place : ℕ) → 1 ≤ place → place ≤ length mol.now.atoms
+        → Covers need.now (codes_at mol.now place) → ⊥ }
+{
+    for atom in mol.atoms() {
+        if allows(need.test, atom.element) {
+            return true;
+        }
+    }
+    false
 }
 
 fn reach_all(needs: &[u64; 5], codes: &[u64; 5]) -> bool

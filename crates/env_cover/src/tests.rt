@@ -1,5 +1,5 @@
-use crate::{Needs, covers, need_of, pivot};
-use env_code::codes_of;
+use crate::{Needs, allows_some, covers, covers_atom, need_of, pivot};
+use env_code::{Coder, codes_of};
 use htss_defs::{Atom, AtomTest, Bond, Codes, ElementSet, Mol, Need, Query, QueryAtom, QueryBond};
 use ring_bonds::{mark_rings, marked_query};
 use std::alloc::Global;
@@ -246,11 +246,18 @@ fn covers_in_ethanol(rt: HostRuntime) -> Result<(), Fail> {
     if mol.atoms().len() != 3 || query.atoms().len() != 2 {
         return Err("other atoms".into());
     }
+    let mut coder = Coder::new();
+    coder.load(&mol);
     for (asked, want) in [(1, [false, true, false]), (2, [false, false, true])] {
         let need = need_of(&query, asked);
+        assert_eq!(rt; allows_some(&need, &mol), true);
         for atom in 1..4 {
             let codes = codes_of(&mol, atom);
             assert_eq!(rt; covers(&need, &codes), want[atom as usize - 1]);
+            assert_eq!(rt;
+                covers_atom(&need, &coder, &mol, atom),
+                want[atom as usize - 1]
+            );
         }
     }
     Ok(())

@@ -43,8 +43,14 @@ pub fn push_overbudget(text: &mut Vec<u8>, budget: u64) -> Result<(), OutOfMemor
     kept_or_cut(text, before, appended)
 }
 
+/// Appends the line of a hit. Where memory runs out, a front of it may stand.
 #[tactic(auto, using(crate::proofs::Fronts::front_trans), unfolding(crate::specs::HitLines::hit_line))]
-fn append_hit(text: &mut Vec<u8>, number: u32, map: &[u16], name: &[u8]) -> Result<(), OutOfMemory>
+pub fn append_hit(
+    text: &mut Vec<u8>,
+    number: u32,
+    map: &[u16],
+    name: &[u8],
+) -> Result<(), OutOfMemory>
     ensures ok { OnOk result (text.new.items
         ≡ text.old.items ++ hit_line (record { number = number; name = name.now; map = map.now })) }
     ensures front { KeepsFront text.old.items text.new.items }
@@ -67,8 +73,9 @@ fn append_count(text: &mut Vec<u8>, count: u32) -> Result<(), OutOfMemory>
     append_bytes(text, b"\n")
 }
 
+/// Appends the line that stands in place of hits that the budget does not allow. Where memory runs out, a front of it may stand.
 #[tactic(auto, using(crate::proofs::Fronts::front_trans), unfolding(crate::specs::HitLines::overbudget_line))]
-fn append_overbudget(text: &mut Vec<u8>, budget: u64) -> Result<(), OutOfMemory>
+pub fn append_overbudget(text: &mut Vec<u8>, budget: u64) -> Result<(), OutOfMemory>
     ensures ok { OnOk result (text.new.items ≡ text.old.items ++ overbudget_line budget) }
     ensures front { KeepsFront text.old.items text.new.items }
 {

@@ -8,6 +8,10 @@ mod record_lines;
 #[cfg(test)]
 mod tests;
 
+pub use append::{append_bytes, append_name, kept_or_cut};
 pub use codes_lines::push_codes;
-pub use hit_lines::{push_count, push_hit, push_overbudget};
-pub use record_lines::{code_word, push_ok, push_query_refused, push_records, push_refused};
+pub use hit_lines::{append_hit, append_overbudget, push_count, push_hit, push_overbudget};
+pub use record_lines::{
+    append_refusal, append_refused, append_spaced, code_word, push_ok, push_query_refused,
+    push_records, push_refused,
+};

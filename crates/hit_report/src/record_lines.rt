@@ -103,8 +103,14 @@ fn append_ok(
     append_bytes(text, b"\n")
 }
 
+/// Appends the line of a record that was refused. Where memory runs out, a front of it may stand.
 #[tactic(auto, using(crate::proofs::Fronts::front_trans), unfolding(crate::specs::RecordLines::refused_line))]
-fn append_refused(text: &mut Vec<u8>, place: u32, line: u64, code: u8) -> Result<(), OutOfMemory>
+pub fn append_refused(
+    text: &mut Vec<u8>,
+    place: u32,
+    line: u64,
+    code: u8,
+) -> Result<(), OutOfMemory>
     ensures ok { OnOk result (text.new.items ≡ text.old.items ++ refused_line place line code) }
     ensures front { KeepsFront text.old.items text.new.items }
 {
@@ -142,9 +148,9 @@ fn append_records(
     append_bytes(text, b"\n")
 }
 
-// Where and why it is refused, and the end of the line.
+/// Appends where and why something is refused, and the end of the line. Where memory runs out, a front of it may stand.
 #[tactic(auto, using(crate::proofs::Fronts::front_trans), unfolding(crate::specs::RecordLines::refusal_text))]
-fn append_refusal(text: &mut Vec<u8>, line: u64, code: u8) -> Result<(), OutOfMemory>
+pub fn append_refusal(text: &mut Vec<u8>, line: u64, code: u8) -> Result<(), OutOfMemory>
     ensures ok { OnOk result (text.new.items ≡ text.old.items ++ refusal_text line code) }
     ensures front { KeepsFront text.old.items text.new.items }
 {
@@ -155,9 +161,9 @@ fn append_refusal(text: &mut Vec<u8>, line: u64, code: u8) -> Result<(), OutOfMe
     append_bytes(text, b"\n")
 }
 
-// A space and the number.
+/// Appends a space and a number. Where memory runs out, a front of it may stand.
 #[tactic(auto, using(crate::proofs::Fronts::front_trans))]
-fn append_spaced(text: &mut Vec<u8>, number: u64) -> Result<(), OutOfMemory>
+pub fn append_spaced(text: &mut Vec<u8>, number: u64) -> Result<(), OutOfMemory>
     ensures ok { OnOk result (text.new.items ≡ text.old.items ++ spaced number) }
     ensures front { KeepsFront text.old.items text.new.items }
 {

@@ -15,3 +15,6 @@ pub mod Codes
 pub mod Needs
 pub mod Screened
 pub mod Reply
+pub mod FileName
+pub mod Shapes
+pub mod HitLists

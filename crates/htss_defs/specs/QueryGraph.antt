@@ -1,7 +1,7 @@
 -- What a query is: a graph of atom tests and bond tests.
 -- (CTfile Formats, "The Bond Block": query bond types 5 to 8, bond topology 0 to 2; "Atom list" and the query atoms
 -- A, Q, * and L of the atom block are the tests. The limit of 64 atoms is this project's own.)
-use Rattle.std.specs.Prelude.{◌≡◌, ℕ, ◌≤◌, ◌≤ℤ◌, pos, negsuc, List, length, map, All, AllPairs}
+use Rattle.std.specs.Prelude.{ℕ, ◌≤◌, ◌≤ℤ◌, pos, negsuc, List, length, map, All, AllPairs}
 use Rattle.htss_defs.specs.declared.graph.Ends.{Ends}
 use Rattle.htss_defs.specs.declared.query.AtomTest.{AtomTest}
 use Rattle.htss_defs.specs.declared.query.AtomTest.TheVariants.{Element}

@@ -15,3 +15,10 @@ pub struct Hit {
     pub name: Name,
     pub map: Places,
 }
+
+/// Why a search has no hits: its work exceeds the budget at this front, or memory ran out.
+#[derive(Clone, Copy, Debug, PartialEq, Eq)]
+pub enum SearchError {
+    OverBudget { front: u32 },
+    OutOfMemory,
+}

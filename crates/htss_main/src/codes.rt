@@ -30,9 +30,10 @@ fn push_lines(text: &mut Vec<u8>, mol: &Mol) -> Result<(), OutOfMemory>
     requires { IsMarked mol.now }
     ensures { OnOk result (text.new.items ≡ text.old.items ++ codes_lines mol.now) }
 {
-    let coder = Coder::new(mol);
+    let mut coder = Coder::new();
+    coder.load(mol);
     for atom in 1..mol.atoms().len() as u16 + 1 {
-        push_codes(text, atom, &coder.codes(atom))?;
+        push_codes(text, atom, &coder.codes(mol, atom))?;
     }
     Ok(())
 }

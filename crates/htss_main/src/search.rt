@@ -11,7 +11,7 @@ ghost use Rattle.htss_main.specs.Searches.{HasCover, HitsHold, Screens, SearchHo
 use arrayvec::ArrayVec;
 use embed::{Found, Matcher};
 use env_code::Coder;
-use env_cover::{Needs, covers, law_of_cover};
+use env_cover::{Needs, allows_some, covers_atom, law_of_cover};
 use hit_report::{push_count, push_hit, push_overbudget};
 use htss_defs::{Mol, Name, Need, OutOfMemory, Query};
 use std::alloc::Global;
@@ -25,6 +25,8 @@ pub struct Search<'a> {
     pivot: u16,
     // of the pivot
     need: Need,
+    // loaded with each record that has an element for the pivot
+    coder: Coder,
     map: ArrayVec<u16, 64>,
     budget: u64,
     // of the budget, `None` once it is spent
@@ -56,6 +58,7 @@ impl<'a> Search<'a> {
             matcher: Matcher::new(query),
             pivot,
             need: needs.need(pivot),
+            coder: Coder::new(),
             map: ArrayVec::new(),
             budget,
             left: Some(budget),
@@ -81,7 +84,7 @@ impl<'a> Search<'a> {
         let Some(left) = self.left else {
             return Ok(());
         };
-        if !has_cover(&self.need, mol) {
+        if !has_cover(&mut self.coder, &self.need, mol) {
             return Ok(());
         }
         self.search(left, name, mol)
@@ -146,15 +149,19 @@ impl<'a> Search<'a> {
     }
 }
 
-// Whether some atom of the molecule covers the need.
-fn has_cover(need: &Need, mol: &Mol) -> bool
+// Whether some atom of the molecule covers the need. Where no atom has an element for it, none is coded.
+fn has_cover(coder: &mut Coder, need: &Need, mol: &Mol) -> bool
     requires { IsMarked mol.now }
     ensures cover { IsTrue result ↔ HasCover need.now mol.now }
     ensures valid { IsMolecule mol.now }
 {
-    let coder = Coder::new(mol);
-    for atom in 1..mol.atoms().len() as u16 + 1 {
-        if covers(need, &coder.codes(atom)) {
+    let atoms = mol.atoms().len() as u16;
+    if !allows_some(need, mol) {
+        return false;
+    }
+    coder.load(mol);
+    for atom in 1..atoms + 1 {
+        if covers_atom(need, coder, mol, atom) {
             return true;
         }
     }

@@ -1,6 +1,5 @@
 use Rattle.std.proofs.Common.{◌-◌, ◌++◌, ap, ◌∙◌, arith}
 use Rattle.hit_report.specs.CodesLines.{codes_line}
-use Rattle.htss_defs.specs.Codes.{codes_at}
 use Rattle.htss_main.proofs.CodesLines.{first_lines, lines_more}
 use Rattle.htss_main.proofs.codes.push_lines.Goals as goal
 
@@ -8,7 +7,6 @@ pub loop-atom-preserved : goal.loop-atom-preserved
 loop-atom-preserved c =
     let mol = c.args.mol.now in
     let atom = c.loop-atom.atom in
-    let codes_are = c.codes.ensures ∙ ap (λ m. codes_at m atom) c.new-coder.ensures in
     lines_more mol (atom - 1) atom c.args.text.now.items c.loop-atom.text.items c.push_codes.new.text.items c.loop-atom.invariant (omega (arith, c.loop-atom.auto.atom))
-    (c.in_ok-push_codes.ensures.ok ∙ ap (λ codes. c.loop-atom.text.items ++ codes_line atom codes) codes_are)
+    (c.in_ok-push_codes.ensures.ok ∙ ap (λ codes. c.loop-atom.text.items ++ codes_line atom codes) c.codes.ensures)
     ∙ ap (λ n. c.args.text.now.items ++ first_lines mol n) (omega arith)

@@ -2,10 +2,10 @@ use Rattle.std.proofs.Common.{◌+◌, ◌<◌, length, refl, ap, arith}
 use Rattle.htss_defs.specs.Codes.{counts_in}
 use Rattle.env_code.proofs.Lanes.{AreRows-start, AreRows-more}
 use Rattle.env_code.proofs.Coding.{atom-row, element-read}
-use Rattle.env_code.proofs.coder.lanes_of.Goals as goal
+use Rattle.env_code.proofs.coder.set_lanes.Goals as goal
 
 pub loop-index-init : goal.loop-index-init
-loop-index-init c = AreRows-start (counts_in c.args.mol.now) _ refl
+loop-index-init c = AreRows-start (counts_in c.args.mol.now) _ (omega arith)
 
 pub loop-index-preserved : goal.loop-index-preserved
 loop-index-preserved c =

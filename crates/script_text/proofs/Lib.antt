@@ -1,0 +1,5 @@
+pub mod Numerals
+pub mod Words
+pub mod Steps
+pub mod Lookups
+pub mod Generated
