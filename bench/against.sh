@@ -8,7 +8,6 @@ set -u
 here=$(cd "$(dirname "$0")" && pwd)
 . "$here/timing.sh"
 records=${2:-20000}
-folder=$(mktemp -d)
 trap 'git -C "$here" worktree remove --force "$folder/tree" 2>/dev/null; rm -rf "$folder"' EXIT
 other=$1
 if [ ! -x "$other" ]; then
@@ -18,7 +17,6 @@ if [ ! -x "$other" ]; then
 fi
 "$here/../htss" check /dev/null >/dev/null || exit 1
 this=$here/../crates/htss_main/out/htss_main
-sdf=$folder/made.sdf
 python3 "$here/make_sdf.py" "$records" 7 >"$sdf"
 python3 "$here/make_queries.py" "$folder"
 

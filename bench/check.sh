@@ -7,9 +7,6 @@ set -u
 here=$(cd "$(dirname "$0")" && pwd)
 . "$here/timing.sh"
 records=${1:-20000}
-folder=$(mktemp -d)
-trap 'rm -rf "$folder"' EXIT
-sdf=$folder/made.sdf
 
 compare() {
   "$here/../htss" check "$sdf" >"$folder/checked.txt" || exit 1

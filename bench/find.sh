@@ -6,9 +6,6 @@ set -u
 here=$(cd "$(dirname "$0")" && pwd)
 . "$here/timing.sh"
 records=${1:-20000}
-folder=$(mktemp -d)
-trap 'rm -rf "$folder"' EXIT
-sdf=$folder/made.sdf
 query=$folder/ring.mol
 python3 "$here/make_sdf.py" "$records" 7 >"$sdf"
 python3 "$here/make_queries.py" "$folder"

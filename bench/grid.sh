@@ -6,8 +6,6 @@
 set -u
 here=$(cd "$(dirname "$0")" && pwd)
 . "$here/timing.sh"
-folder=$(mktemp -d)
-trap 'rm -rf "$folder"' EXIT
 python3 "$here/make_grid.py" "$folder"
 rustc -O -o "$folder/plain_scan" "$here/plain_scan.rs" || exit 1
 sdf=$folder/grid.sdf

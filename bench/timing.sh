@@ -1,4 +1,9 @@
-# The least of five runs, and a line of it. `records` and `sdf` are those of the script that reads this file.
+# What the scripts share: a folder that goes when the script ends, the place of its SDfile, the least of five runs, and a line of
+# it. The script that reads this file says how many records the SDfile has.
+
+folder=$(mktemp -d)
+trap 'rm -rf "$folder"' EXIT
+sdf=$folder/made.sdf
 
 # The microseconds of the quickest of five runs of a command.
 best() {
