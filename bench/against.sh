@@ -17,7 +17,7 @@ if [ ! -x "$other" ]; then
 fi
 "$here/../htss" check /dev/null >/dev/null || exit 1
 this=$here/../crates/htss_main/out/htss_main
-python3 "$here/make_sdf.py" "$records" 7 >"$sdf"
+"$here/../htss" make "$records" 7 >"$sdf"
 python3 "$here/make_queries.py" "$folder"
 
 report 'check, other' "$(best "$other" check "$sdf")"

@@ -26,8 +26,10 @@ compare() {
 }
 
 echo 'made records'
-python3 "$here/make_sdf.py" "$records" 7 >"$sdf"
+"$here/../htss" make "$records" 7 >"$sdf"
 compare
 echo 'made records with data items'
-python3 "$here/make_sdf.py" "$records" 7 items >"$sdf"
+awk '{ print } /^M  END$/ { n++; for (i = 1; i <= 20; i++) printf "> <ITEM_%d>\nvalue %d of item %d\n\n", i, n, i }' \
+  "$sdf" >"$folder/items.sdf"
+mv "$folder/items.sdf" "$sdf"
 compare

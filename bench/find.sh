@@ -7,7 +7,7 @@ here=$(cd "$(dirname "$0")" && pwd)
 . "$here/timing.sh"
 records=${1:-20000}
 query=$folder/ring.mol
-python3 "$here/make_sdf.py" "$records" 7 >"$sdf"
+"$here/../htss" make "$records" 7 >"$sdf"
 python3 "$here/make_queries.py" "$folder"
 "$here/../htss" find "$sdf" "$query" >"$folder/hits.txt" || exit 1
 tail -n 1 "$folder/hits.txt"

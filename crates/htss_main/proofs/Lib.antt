@@ -4,7 +4,14 @@ pub mod ScreenedRecords
 pub mod Searching
 pub mod Taken
 pub mod Writing
+pub mod Making
+pub mod PlainRing
+pub mod MadeLength
+pub mod Summed
 pub mod Causes
+pub mod Endings
+pub mod JobFiles
+pub mod Rising
+pub mod Running
 pub mod Streams
-pub mod Numerals
 pub mod CodesLines

@@ -13,7 +13,7 @@ use Rattle.htss_main.specs.Takers.{CheckHolds, FindHolds}
 
 -- ---- the words on a list with one more outcome
 
-accepted_records-push : (outcomes : List Outcome) (one : Outcome) → accepted_records (outcomes ++ one ∷ []) ≡ accepted_records outcomes ++ accepted_records (one ∷ [])
+pub accepted_records-push : (outcomes : List Outcome) (one : Outcome) → accepted_records (outcomes ++ one ∷ []) ≡ accepted_records outcomes ++ accepted_records (one ∷ [])
 accepted_records-push [] one = refl
 accepted_records-push (accepted name mol ∷ outcomes) one = ap (λ (x : List NamedMol). record { name = name; mol = mol } ∷ x) (accepted_records-push outcomes one)
 accepted_records-push (refused line code ∷ outcomes) one = accepted_records-push outcomes one

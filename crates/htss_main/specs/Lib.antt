@@ -1,7 +1,10 @@
-pub mod Tasks
 pub mod Outcomes
 pub mod RecordTexts
 pub mod FindText
+pub mod MakeText
+pub mod RunText
 pub mod Ends
+pub mod Stops
+pub mod Runs
 pub mod Searches
 pub mod Takers

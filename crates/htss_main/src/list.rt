@@ -3,10 +3,10 @@ ghost use Rattle.std.specs.Prelude.{◌≡◌, ◌+◌, ◌^◌, ◌<◌, ◌≤
 ghost use Rattle.mol_section.specs.SectionRecord.{Outcome};
 ghost use Rattle.ctfile.specs.RecordList.{IsRecordList};
 ghost use Rattle.ctfile.specs.Stream.{HasRead};
-ghost use Rattle.htss_main.specs.Tasks.{Task};
-ghost use Rattle.htss_main.specs.Outcomes.{stop_outcome};
+ghost use Rattle.htss_main.specs.Outcomes.{stop_why};
 ghost use Rattle.htss_main.specs.FindText.{RecordsWereRead};
-ghost use Rattle.htss_main.specs.Ends.{ComesToRead, MayComeOut, ShelfGoesOn, seen};
+ghost use Rattle.htss_main.specs.Ends.{ShelfGoesOn, seen};
+ghost use Rattle.htss_main.specs.Stops.{IsStopOfFile};
 
 use crate::stop::{Stop, read_stop};
 use crate::taker::Taker;
@@ -27,10 +27,9 @@ pub fn read_list<'a, F: Shelf, T: Taker>(
     ensures read { OnOk result ((outcomes : List Outcome)
         × RecordsWereRead (F.told shelf.old) name.now outcomes × T.holds taker.new outcomes) }
     ensures asked { OnOk result (T.asked taker.new ≡ T.asked taker.old) }
-    ensures stop { IfErr result (λ stop. (task : Task) → ComesToRead (F.told shelf.old) task name.now
-        → MayComeOut (Some task)
+    ensures stop { IfErr result (λ stop. IsStopOfFile
         (seen F.told F.absent F.faults shelf.old) (seen F.told F.absent F.faults shelf.new)
-        (stop_outcome stop)) }
+        name.now (stop_why stop)) }
     ensures goes_on { ShelfGoesOn
         (seen F.told F.absent F.faults shelf.old) (seen F.told F.absent F.faults shelf.new) }
 {
@@ -58,8 +57,8 @@ pub fn read_list<'a, F: Shelf, T: Taker>(
     }
 }
 
-// Feeds a piece, and hands on the records that are whole then.
-fn take_piece<T: Taker>(
+/// Feeds a piece, and hands on the records that are whole then.
+pub fn take_piece<T: Taker>(
     reader: &mut RecordReader,
     piece: &[u8],
     taker: &mut T,
@@ -79,8 +78,8 @@ fn take_piece<T: Taker>(
     drain(reader, taker)
 }
 
-// Hands on the records that the reader has.
-fn drain<T: Taker>(reader: &mut RecordReader, taker: &mut T) -> Result<(), OutOfMemory>
+/// Hands on the records that the reader has.
+pub fn drain<T: Taker>(reader: &mut RecordReader, taker: &mut T) -> Result<(), OutOfMemory>
     requires { T.taken taker.old ≡ reader.old.place }
     ensures asked { OnOk result (T.asked taker.new ≡ T.asked taker.old) }
     ensures taken { OnOk result (T.taken taker.new ≡ reader.new.place) }

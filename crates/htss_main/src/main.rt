@@ -1,23 +1,35 @@
 //! `htss`: a compound registry that is searched by substructure. This program finds the records of an SDfile into which
-//! a query molecule embeds, checks the records of an SDfile, and tells the codes of the atoms of a molfile.
+//! a query molecule embeds, checks the records of an SDfile, tells the codes of the atoms of a molfile, makes SDfiles of generated
+//! records, and runs scripts that load, withdraw and search records.
 #![tactic(auto)]
 
+mod answer;
 mod check_taker;
 #[cfg(test)]
 mod check_tests;
 mod codes;
+mod commands;
 mod find_taker;
+mod job_files;
 mod list;
+mod make;
+#[cfg(test)]
+mod make_tests;
 #[cfg(test)]
 mod query_tests;
+mod read_back;
+mod run;
+#[cfg(test)]
+mod run_tests;
 mod search;
 mod stop;
+mod summary_taker;
 mod taker;
 #[cfg(test)]
 mod tests;
 mod tool;
 mod top;
-mod words;
+mod vec_sink;
 
 use crate::stop::Stop;
 use outside::{DirShelf, OutSink};

@@ -191,7 +191,7 @@ fn a_budget_allows_the_hits_or_is_told(rt: HostRuntime) -> Result<(), Fail> {
 }
 
 #[test]
-fn a_budget_stands_last_and_alone(rt: HostRuntime) -> Result<(), Fail> {
+fn a_budget_is_an_option_of_find(rt: HostRuntime) -> Result<(), Fail> {
     let cases = [
         command(
             &["find", "mixed.sdf", "c.mol", "--budget", "0"],
@@ -211,11 +211,16 @@ fn a_budget_stands_last_and_alone(rt: HostRuntime) -> Result<(), Fail> {
         ),
         command(
             &["find", "a.sdf", "co.mol", "--budget=18"],
-            2,
-            "stop 2 usage\n",
+            0,
+            "hit 1 2,3 ethanol\nhit 2 1,2 ether\nhits 2\n",
         ),
         command(
             &["find", "--budget", "18", "a.sdf", "co.mol"],
+            0,
+            "hit 1 2,3 ethanol\nhit 2 1,2 ether\nhits 2\n",
+        ),
+        command(
+            &["find", "a.sdf", "co.mol", "--budget", "-1"],
             2,
             "stop 2 usage\n",
         ),

@@ -2,14 +2,20 @@
 ghost use Rattle.std.specs.Prelude.{List, map, string_bytes};
 ghost use Rattle.htss_main.specs.Ends.{Ends, seen, seen_out};
 
-use crate::tool::htss_tool;
+use crate::commands::do_command;
+use crate::stop::Stop;
+use crate::tool::refuse;
+use command_words::read_words;
+use htss_defs::OutOfMemory;
 use outside::{Shelf, Sink};
 use std::alloc::Global;
 use std::sync::Wait;
 use std::thread::Threads;
 
-/// Does what the words after the program's name say, and answers the status, as `htss_tool` does. The runtime serves
-/// the commands that run in threads; there is none yet.
+/// Does what the words after the program's name say, and answers the status:
+/// 0, or 2 where they are no command line, 3 where a script is at fault, 4 where a read failed, 5 where a write failed, 6 where
+/// memory ran out, 7 where a file is absent, 8 where it is too large. The runtime serves the commands that run in threads; there
+/// is none yet.
 pub fn htss<R: Threads + Wait + Sync, F: Shelf, K: Sink>(
     rt: &R,
     alloc: Global,
@@ -22,5 +28,9 @@ pub fn htss<R: Threads + Wait + Sync, F: Shelf, K: Sink>(
         (seen_out K.written K.faults out.old) (seen_out K.written K.faults out.new) result }
 {
     let _rt = rt;
-    htss_tool(alloc, words, shelf, out)
+    match read_words(alloc, words) {
+        Err(OutOfMemory) => refuse(out, Stop::Memory),
+        Ok(None) => refuse(out, Stop::Usage),
+        Ok(Some(command)) => do_command(alloc, command, shelf, out),
+    }
 }

@@ -2,7 +2,7 @@
 // a ring with the ways up from its ends to where they meet, and each ring bond is such a bond or on
 // such a way.
 ghost use Rattle.std.specs.Prelude.{◌≡◌, ◌≢◌, ◌↔◌, ℕ, ◌<◌, ◌≤◌, false, true, IsTrue, length};
-ghost use Rattle.std.specs.Prelude.{slice_index_or};
+ghost use Rattle.std.specs.Prelude.{slice_index, slice_index_or};
 ghost use Rattle.htss_defs.specs.Graph.{IsRingBond};
 ghost use Rattle.ring_bonds.specs.Forest.{AreRises, IsTreeBond, above_of, parent_of};
 ghost use Rattle.ring_bonds.specs.Marking.{AreTops, Grows, IsClosed, IsDone, IsMarking, IsTop};
@@ -25,31 +25,30 @@ pub struct Marking {
 pub fn ring_flags(graph: &Adjacency) -> [bool; 999]
     ensures { (k : ℕ) → (IsTrue (slice_index_or result k false) ↔ IsRingBond graph.now k) }
 {
-    let mut marking = Marking::new(forest_of(graph));
+    // made in place: a marking is 11 KB
+    let mut marking = Marking {
+        forest: forest_of(graph),
+        tops: own_places(),
+        flags: [false; 999],
+    };
     for bond in 0..graph.bonds().len() {
         marking.mark(graph, bond);
     }
     marking.flags
 }
 
-impl Marking {
-    // No bond is marked.
-    fn new(forest: Forest) -> Marking
-        ensures forest { result.forest ≡ forest }
-        ensures flags { (k : ℕ) → flag_of result.flags k ≡ false }
-        ensures tops { AreTops result.forest result.flags result.tops }
-    {
-        let mut tops = [0; 1000];
-        for x in 0..1000 {
-            tops[x] = x as u16;
-        }
-        Marking {
-            forest,
-            tops,
-            flags: [false; 999],
-        }
+// Each place itself.
+fn own_places() -> [u16; 1000]
+    ensures { (x : ℕ) → x < 1000 → slice_index result x ≡ x }
+{
+    let mut places = [0; 1000];
+    for x in 0..1000 {
+        places[x] = x as u16;
     }
+    places
+}
 
+impl Marking {
     // Marks what the bond closes, unless it is in the forest.
     fn mark(&mut self, graph: &Adjacency, bond: usize)
         requires valid { IsMarking graph.now self.old }

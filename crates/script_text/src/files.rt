@@ -15,11 +15,15 @@ pub struct Files {
 }
 
 impl Model for Files {
-    ghost use Rattle.std.specs.Prelude.{ℕ, List};
+    ghost use Rattle.std.specs.Prelude.{ℕ, ◌≤◌, List, All, length};
+    ghost use Rattle.std.specs.Map.{values_of};
+    ghost use Rattle.outside.specs.Files.{file_limit};
 
     ghost Value = { List (ℕ × List ℕ) };
 
     ghost view = { λ f. f.files.entries };
+
+    ghost invariant = { λ f. All (λ bytes. length bytes ≤ file_limit) (values_of f.files.entries) };
 }
 
 impl Files {
@@ -46,7 +50,8 @@ impl Files {
     /// The bytes of the line, which were put before.
     pub fn at(&self, line: u32) -> &[u8]
         requires { IsSome (bytes_at self.now line) }
-        ensures { bytes_at self.now line ≡ Some result.now }
+        ensures bytes { bytes_at self.now line ≡ Some result.now }
+        ensures size { length result.now ≤ file_limit }
     {
         self.files.get(&line).unwrap().as_slice()
     }

@@ -13,5 +13,6 @@ mod tests;
 
 pub use files::Files;
 pub use making::{MakeStop, make_file};
+pub use numbers::whole_number;
 pub use reader::read_script;
 pub use script::{Group, Groups, Job, Jobs, Order, Script, ScriptFault};

@@ -4,10 +4,10 @@ ghost use Rattle.std.specs.Str.{IsUtf8};
 ghost use Rattle.std.specs.List.{list_all};
 ghost use Rattle.script_text.specs.Grammar.{is_digit, is_numeral, number_of};
 
-// The most digits of the number of a record, and of a budget.
+// The most digits of the number of a record, and of any number.
 const NUMBER_DIGITS: usize = 10;
 
-const BUDGET_DIGITS: usize = 20;
+const MOST_DIGITS: usize = 20;
 
 /// The number of a record, in 1 to 10 digits, where it is below 2^32.
 pub fn record_number(word: &[u8]) -> Option<u32>
@@ -22,11 +22,11 @@ pub fn record_number(word: &[u8]) -> Option<u32>
     }
 }
 
-/// A budget in steps, in 1 to 20 digits, where it is below 2^64.
-pub fn budget_of(word: &[u8]) -> Option<u64>
+/// The value of 1 to 20 digits, leading zeros allowed, where it is below 2^64.
+pub fn whole_number(word: &[u8]) -> Option<u64>
     ensures { result ≡ number_of 20 (2 ^ 64) word.now }
 {
-    if !is_numeral(word, BUDGET_DIGITS) {
+    if !is_numeral(word, MOST_DIGITS) {
         return None;
     }
     match text_of(word).parse() {

@@ -6,7 +6,7 @@ ghost use Rattle.mol_section.specs.Fields.{is_blank, words_of};
 ghost use Rattle.script_text.specs.Grammar.{is_comment, is_plain, is_printable, number_of, says, withdrawal, words_say};
 
 use crate::Order;
-use crate::numbers::{budget_of, record_number, text_of};
+use crate::numbers::{record_number, text_of, whole_number};
 use htss_defs::{FileName, OutOfMemory};
 use mol_section::next_word;
 use std::alloc::Global;
@@ -104,7 +104,7 @@ fn two_words_say(
     if command != b"search".as_slice() {
         return Ok(Saying::Wrong);
     }
-    let Some(budget) = budget_of(second) else {
+    let Some(budget) = whole_number(second) else {
         return Ok(Saying::Wrong);
     };
     let file = file_name(alloc, first)?;

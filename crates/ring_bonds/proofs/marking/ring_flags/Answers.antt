@@ -1,8 +1,20 @@
-use Rattle.std.proofs.Common.{◌≤◌, length, ap, arith}
+use Rattle.std.proofs.Common.{Bool, false, ◌≤◌, length, ap, sym, ◌∙◌, arith}
 use Rattle.ring_bonds.specs.Marking.{AreDone, IsMarking}
 use Rattle.ring_bonds.proofs.Rings.{marked-ring}
-use Rattle.ring_bonds.proofs.Tops.{AreRises-of, AreDone-more}
+use Rattle.ring_bonds.proofs.Tops.{AreRises-of, AreDone-more, AreTops-start}
+use Rattle.ring_bonds.proofs.Visits.{get_or-all}
+use Rattle.std.proofs.lemmas.Bool.{false≢true}
 use Rattle.ring_bonds.proofs.marking.ring_flags.Goals as goal
+
+pub loop-bond-init : goal.loop-bond-init
+loop-bond-init c = record {
+  valid = record {
+    forest = c.forest_of.ensures;
+    tops = AreTops-start _ _ _ (λ k. get_or-all {X = Bool} 999 k false) c.own_places.ensures;
+    sound = record { rings = λ k marked. absurd (false≢true (sym (get_or-all {X = Bool} 999 k false) ∙ marked)) };
+  };
+  done = record { each = λ k within. absurd (omega arith) };
+}
 
 pub loop-bond-preserved : goal.loop-bond-preserved
 loop-bond-preserved c = record {

@@ -1,0 +1,10 @@
+pub mod Texts
+pub mod ClapRules
+pub mod ClapArguments
+pub mod ClapWalk
+pub mod ClapRows
+pub mod ClapBuilt
+pub mod ClapLaw
+pub mod StrayWords
+pub mod ClapReading
+pub mod Said

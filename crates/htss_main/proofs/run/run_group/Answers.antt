@@ -1,0 +1,32 @@
+use Rattle.std.specs.Prelude.{◌++◌, ◌∷◌}
+use Rattle.std.proofs.lemmas.Result.{err_from_is_err_and}
+use Rattle.htss_main.specs.Ends.{seen}
+use Rattle.htss_main.proofs.Running.{any_time_in_group, are_there, done_more, stops_at_file}
+use Rattle.htss_main.proofs.run.run_group.Goals as goal
+
+pub returns-in_err-files-clause-stop : goal.returns-in_err-files-clause-stop
+returns-in_err-files-clause-stop g c =
+    let p = err_from_is_err_and c.from_residual.result c.from_residual.ensures.1 in
+    let before_seen = seen g.F.Shelf.told g.F.Shelf.absent g.F.Shelf.faults c.args.shelf.now in
+    let now = seen g.F.Shelf.told g.F.Shelf.absent g.F.Shelf.faults c.read_files.new.shelf in
+    let stops = rw c.as_slice.ensures at c.in_err-files.ensures.stop in
+    rw (p.1, p.2)
+    (λ before after done script read.
+    stops_at_file before_seen now script before after c.args.group.now c.args.shape.now c.args.budget c.args.registry.now c.args.text.now.items _ c.requires.shape c.requires.opened read done stops)
+
+pub append_group-requires-clause-files : goal.append_group-requires-clause-files
+append_group-requires-clause-files g c =
+    let have = rw c.as_slice.ensures at c.in_ok-files.ensures.have in
+    are_there (g.F.Shelf.told c.args.shelf.now) c.in_ok-files.files c.args.group.now.jobs have
+
+pub returns-in-Ok-clause-done : goal.returns-in-Ok-clause-done
+returns-in-Ok-clause-done g c =
+    λ before after script read done.
+    let have = rw c.as_slice.ensures at c.in_ok-files.ensures.have in
+    let told = c.in-Ok.ensures.told in
+    done_more (g.F.Shelf.told c.args.shelf.now) script before after c.args.group.now c.args.shape.now c.args.budget c.in_ok-files.files c.args.registry.now.events c.append_group.new.registry.events c.args.text.now.items c.append_group.new.text.items told.0 read have told.1 told.2 done
+
+pub returns-clause-stop : goal.returns-clause-stop
+returns-clause-stop g c =
+    λ before after done script read.
+    any_time_in_group (g.F.Shelf.told c.args.shelf.now) script before after c.args.group.now c.args.shape.now c.args.budget c.args.registry.now c.args.text.now.items c.append_group.new.text.items c.requires.shape c.requires.opened read done c.in-Err.ensures.err

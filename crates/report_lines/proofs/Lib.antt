@@ -1,0 +1,10 @@
+pub mod WordsRead
+pub mod Parts
+pub mod Maps
+pub mod Bodies
+pub mod ReadAgain
+pub mod Unique
+pub mod Numerals
+pub mod WordsMean
+pub mod PartsMean
+pub mod LinesMean

@@ -1,0 +1,4 @@
+pub mod Answers
+pub mod Dealing
+pub mod Rules
+pub mod Reports
