@@ -6,3 +6,5 @@ mod Sureness
 mod Pivots
 mod Covering
 pub mod AtomCover
+pub mod Deciding
+pub mod Screening

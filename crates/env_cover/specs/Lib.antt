@@ -2,3 +2,4 @@ pub mod Sure
 pub mod Reach
 pub mod Law
 pub mod Cover
+pub mod Screening

@@ -1,11 +1,14 @@
 ghost use Rattle.std.specs.Prelude.{◌≡◌, ℕ, ◌<◌, ◌≤◌, ◌↔◌, false, length, IsTrue, slice_index, ◌==◌};
 ghost use Rattle.std.specs.Int.{bit_at};
+ghost use Rattle.htss_defs.specs.Molecule.{IsMolecule};
+ghost use Rattle.htss_defs.specs.Marked.{IsMarked};
 ghost use Rattle.htss_defs.specs.Codes.{codes_at};
 ghost use Rattle.htss_defs.specs.Passes.{allows};
 ghost use Rattle.htss_defs.specs.Needs.{Covers};
 ghost use Rattle.env_code.specs.Coders.{IsCoder};
 ghost use Rattle.env_cover.specs.Reach.{Reaches};
 ghost use Rattle.env_cover.specs.Cover.{HasAllowed};
+ghost use Rattle.env_cover.specs.Screening.{HasCover};
 
 use env_code::Coder;
 use htss_defs::{AtomTest, Codes, Mol, Need, allows};
@@ -49,6 +52,27 @@ pub fn allows_some(need: &Need, mol: &Mol) -> bool
 {
     for atom in mol.atoms() {
         if allows(need.test, atom.element) {
+            return true;
+        }
+    }
+    false
+}
+
+/// Whether the codes of some atom of a marked molecule cover the need. Where no atom has an element
+/// for it, none is coded; else it ends at the first atom that covers. It needs the coder to work with,
+/// whatever that was: of which molecule it is afterwards is open.
+pub fn has_cover(coder: &mut Coder, need: &Need, mol: &Mol) -> bool
+    requires marked { IsMarked mol.now }
+    ensures cover { IsTrue result ↔ HasCover need.now mol.now }
+    ensures valid { IsMolecule mol.now }
+{
+    let atoms = mol.atoms().len() as u16;
+    if !allows_some(need, mol) {
+        return false;
+    }
+    coder.load(mol);
+    for atom in 1..atoms + 1 {
+        if covers_atom(need, coder, mol, atom) {
             return true;
         }
     }

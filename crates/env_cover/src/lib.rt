@@ -8,6 +8,6 @@ mod sure;
 #[cfg(test)]
 mod tests;
 
-pub use cover::{allows_some, covers, covers_atom};
+pub use cover::{allows_some, covers, covers_atom, has_cover};
 pub use law::law_of_cover;
 pub use needs::{Needs, need_of, pivot};

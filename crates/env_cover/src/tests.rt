@@ -1,4 +1,4 @@
-use crate::{Needs, allows_some, covers, covers_atom, need_of, pivot};
+use crate::{Needs, allows_some, covers, covers_atom, has_cover, need_of, pivot};
 use env_code::{Coder, codes_of};
 use htss_defs::{Atom, AtomTest, Bond, Codes, ElementSet, Mol, Need, Query, QueryAtom, QueryBond};
 use ring_bonds::{mark_rings, marked_query};
@@ -259,6 +259,20 @@ fn covers_in_ethanol(rt: HostRuntime) -> Result<(), Fail> {
                 want[atom as usize - 1]
             );
         }
+    }
+    Ok(())
+}
+
+// Ethanol has no sulphur, and its carbons are in no ring.
+#[test]
+fn pivots_covered_in_ethanol(rt: HostRuntime) -> Result<(), Fail> {
+    let mut mol = ethanol(rt.alloc())?;
+    mark_rings(&mut mol);
+    let mut coder = Coder::new();
+    for (asked, want) in [(&CARBON_OXYGEN, true), (&STAR, false), (&RING, false)] {
+        let query = query_of(rt.alloc(), asked)?;
+        let need = need_of(&query, pivot(&query));
+        assert_eq!(rt; has_cover(&mut coder, &need, &mol), want);
     }
     Ok(())
 }

@@ -1,13 +1,12 @@
 -- The files of jobs, read one after the other.
-use Rattle.std.proofs.Common.{◌≡◌, ℕ, suc, ◌+◌, ◌<◌, ◌≤◌, List, [], ◌∷◌, ◌++◌, map, length, take, drop, append_assoc, refl, sym, ap, subst, ◌∙◌, eqb-true, eq-eqb, ne_eqb, arith}
-use Rattle.std.specs.Prelude.{Option, Some, None, All, Contains, Bool, true, false, ◌==◌, if◌then◌else◌, slice_index_or}
+use Rattle.std.proofs.Common.{◌≡◌, ℕ, suc, ◌+◌, ◌<◌, List, [], ◌∷◌, ◌++◌, length, take, drop, append_assoc, refl, sym, ap, subst, ◌∙◌, eqb-true, eq-eqb, ne_eqb, arith}
+use Rattle.std.specs.Prelude.{Option, Some, All, Contains, Bool, true, false, ◌==◌, if◌then◌else◌, slice_index_or}
 use Rattle.std.proofs.lemmas.List.{append-nil, map-append, take-append-drop}
 use Rattle.std.proofs.lemmas.Grind.{flat_map-append}
 use Rattle.std.proofs.Math.Seq.{drop-cons, take-suc}
 use Rattle.std.proofs.lemmas.List.Elements.{All-append, All-cons, All-nil, Contains-append_left, Contains-append_right}
 use Rattle.outside.specs.Files.{File, WasRead}
 use Rattle.script_text.specs.declared.script.Job.{Job}
-use Rattle.script_text.specs.declared.script.Order.{Order}
 use Rattle.script_text.specs.FilesByLine.{bytes_at}
 use Rattle.htss_main.specs.Outcomes.{Why}
 use Rattle.htss_main.specs.RunText.{AreFilesOf, CanBeRead, HasItsFile, IsFileOf, file_named, files_named}

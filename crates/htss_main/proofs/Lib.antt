@@ -1,5 +1,4 @@
 pub mod Publications
-pub mod Deciding
 pub mod ScreenedRecords
 pub mod Searching
 pub mod Taken

@@ -2,7 +2,6 @@
 use Rattle.std.proofs.Common.{◌≡◌, ℕ, ◌+◌, ◌-◌, ◌<◌, ◌≤◌, ◌⊎◌, List, [], ◌∷◌, ◌++◌, length, get_or, sym, ap, subst, ◌∙◌, inl, inr, All, arith}
 use Rattle.std.specs.Prelude.{Option, Some, None, slice_get, Contains}
 use Rattle.std.specs.Option.{option_map}
-use Rattle.std.specs.List.Sorted.{IsStrictlyIncreasing}
 use Rattle.std.proofs.lemmas.Bool.{cases_lt}
 use Rattle.std.proofs.lemmas.List.{map-append, length_push, length-map, get_or_append_left, get_or_push}
 use Rattle.std.proofs.lemmas.List.Elements.{All-map, All-push, Contains-append_left, Contains-push}
@@ -16,6 +15,7 @@ use Rattle.htss_defs.specs.QueryGraph.{QueryGraph}
 use Rattle.htss_defs.specs.Embedding.{IsEmbedding, IsLeastEmbedding, NoEmbedding}
 use Rattle.htss_defs.specs.History.{Withdraws, IsLive, publications}
 use Rattle.htss_defs.specs.Hits.{IsHit, AreHits, numbers}
+use Rattle.reg_model.proofs.Prefixes.{rising-push}
 
 -- the record of this number
 pub record IsRecord (es : List NamedMol) (number : ℕ) (name : List ℕ) (mol : Molecule) : Type 0 where
@@ -103,15 +103,6 @@ hits-passed q es e hits are none = record {
     | inr last ↦ absurd (none map (subst (λ (m : Molecule). IsEmbedding q m map) (sym last.2) embeds))
   ];
 }
-
--- a number above all others at the end
-pub rising-push : (xs : List ℕ) (n : ℕ) → IsStrictlyIncreasing xs → All (λ x. x < n) xs → IsStrictlyIncreasing (xs ++ n ∷ [])
-rising-push xs n rising below k within =
-    let len = length_push xs n in
-    elim (cases_lt (k + 1) (length xs)) [
-      | inl before ↦ rw (get_or_append_left xs (n ∷ []) 0 k (omega arith), get_or_append_left xs (n ∷ []) 0 (k + 1) before) (rising k before)
-      | inr last ↦ rw (get_or_append_left xs (n ∷ []) 0 k (omega arith), get_or_push xs n 0 (k + 1) (omega arith)) (below k 0 (omega arith))
-    ]
 
 numbers-below : (q : QueryGraph) (es : List NamedMol) (hits : List Hit) → All (IsHit q (publications es)) hits → All (λ x. x < length es + 1) (numbers hits)
 numbers-below q es hits each =

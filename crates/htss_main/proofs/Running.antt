@@ -1,6 +1,6 @@
 -- What a run has of its text, group by group.
 use Rattle.std.proofs.Common.{◌≡◌, ℕ, zero, suc, ◌+◌, ◌<◌, ◌≤◌, List, [], ◌∷◌, ◌++◌, map, length, take, drop, append_assoc, refl, sym, ap, subst, ◌∙◌, inl, inr, ◌⊎◌, arith}
-use Rattle.std.specs.Prelude.{Option, Some, None, Bool, true, false, IsSome, is_some, All, Contains, slice_index_or, ◌==◌, if◌then◌else◌}
+use Rattle.std.specs.Prelude.{Option, Some, None, Bool, true, false, is_some, All, Contains, slice_index_or, ◌==◌, if◌then◌else◌}
 use Rattle.std.specs.List.{flat_map}
 use Rattle.std.proofs.lemmas.List.{append-nil, map-append, take_all}
 use Rattle.std.proofs.lemmas.List.Elements.{All-append, Contains-append_left, Contains-append_right}
@@ -17,18 +17,16 @@ use Rattle.script_text.specs.declared.script.Order.{Order}
 use Rattle.script_text.specs.declared.script.Order.TheVariants.{Load, Withdraw, Search}
 use Rattle.script_text.specs.FilesByLine.{bytes_at}
 use Rattle.report_text.specs.declared.report.Block.{Block}
-use Rattle.report_text.specs.ReportText.{block_text, callers_text, header_text, log_text, report_text, sizes_text}
-use Rattle.hit_report.specs.RecordLines.{spaced}
+use Rattle.report_text.specs.ReportText.{block_text, header_text, log_text, report_text}
 use Rattle.report_rules.specs.Answers.{JobAnswer, loaded, withdrew, searched}
-use Rattle.report_rules.specs.Dealing.{Dealt, dealt}
-use Rattle.report_rules.specs.Reports.{Done, IsAnswerTo, IsByItsFile, IsByLoader, IsReport, IsToldBy, done_block, log_line}
+use Rattle.report_rules.specs.Reports.{Done, IsAnswerTo, IsByLoader, IsToldBy, done_block, log_line}
 use Rattle.report_rules.specs.Rules.{Line}
 use Rattle.script_run.specs.Groups.{AreSameFor, AreThere, IsThere}
-use Rattle.outside.specs.Files.{File, WasRead}
+use Rattle.outside.specs.Files.{File}
 use Rattle.command_words.specs.Tasks.{run_of}
 use Rattle.htss_main.specs.Outcomes.{Why}
 use Rattle.htss_main.specs.Ends.{MayStop, ShelfGoesOn, ShelfSeen}
-use Rattle.htss_main.specs.RunText.{AreFilesOf, HasItsFile, HasRunTo, IsFileOf, IsRunFront, IsRunFrontAtAnyTime, IsRunText, IsTextBefore, ScriptWasRead, file_named, jobs_of}
+use Rattle.htss_main.specs.RunText.{AreFilesOf, HasItsFile, IsFileOf, IsRunFront, IsRunFrontAtAnyTime, IsRunText, IsTextBefore, ScriptWasRead, file_named, jobs_of}
 use Rattle.htss_main.specs.Runs.{AreOnlyFor, HasDone, HaveFiles, IsOpen, RunMayStop, StopsAmong, TellsMore, begun_text, lines_of_jobs, with_header}
 use Rattle.htss_main.proofs.Causes.{MayStop-earlier, MayStop-of-file}
 use Rattle.htss_main.proofs.JobFiles.{split_at, take_next}

@@ -3,7 +3,6 @@ use Rattle.std.proofs.Common.{◌≡◌, ℕ, ◌+◌, ◌<◌, List, [], ◌∷
 use Rattle.std.specs.Prelude.{Option, Some, None}
 use Rattle.std.specs.List.{flat_map}
 use Rattle.std.proofs.lemmas.List.{append-nil, length_push}
-use Rattle.std.proofs.lemmas.List.Sums.{sum_by_push}
 use Rattle.std.proofs.lemmas.Grind.{flat_map-append}
 use Rattle.htss_defs.specs.declared.history.Hit.{Hit}
 use Rattle.htss_defs.specs.declared.record.NamedMol.{NamedMol}
@@ -12,12 +11,13 @@ use Rattle.htss_defs.specs.Embedding.{IsLeastEmbedding, NoEmbedding}
 use Rattle.htss_defs.specs.Cost.{cost}
 use Rattle.htss_defs.specs.Screened.{IsScreened}
 use Rattle.htss_defs.specs.History.{publications}
-use Rattle.htss_defs.specs.Reply.{Numbered, Reply, found, over_budget, IsReply, atoms_of, work}
+use Rattle.htss_defs.specs.Reply.{Numbered, Reply, found, over_budget, IsReply}
 use Rattle.embed.specs.Paid.{Paid}
 use Rattle.hit_report.specs.HitLines.{hit_line, count_line, overbudget_line}
+use Rattle.env_cover.proofs.Deciding.{Decision}
+use Rattle.reg_model.proofs.Searching.{work_push, atoms_push}
 use Rattle.htss_main.specs.FindText.{reply_text}
 use Rattle.htss_main.specs.Searches.{HitsHold, IsOver, SearchHolds}
-use Rattle.htss_main.proofs.Deciding.{Decision}
 use Rattle.htss_main.proofs.Publications.{hits-none, hits-passed, hits-hit}
 use Rattle.htss_main.proofs.ScreenedRecords.{screened-none, screened-passed, screened-more}
 
@@ -48,12 +48,6 @@ HitsHold-passed q budget left lines count es e holds unscreened none = record {
 }
 
 -- ---- a record that is screened
-
-work_push : (q : QueryGraph) (records : List Numbered) (one : Numbered) → work q (records ++ one ∷ []) ≡ work q records + cost q one.mol []
-work_push q records one = sum_by_push (λ (r : Numbered). cost q r.mol []) records one
-
-atoms_push : (records : List Numbered) (one : Numbered) → atoms_of (records ++ one ∷ []) ≡ atoms_of records + length one.mol.atoms
-atoms_push records one = sum_by_push (λ (r : Numbered). length r.mol.atoms) records one
 
 pub HitsHold-none_found : (q : QueryGraph) (budget left left' : ℕ) (lines : List ℕ) (count : ℕ) (es : List NamedMol) (e : NamedMol) → HitsHold q budget left lines count es → IsScreened q e.mol → Paid (length e.mol.atoms) (cost q e.mol []) left left'
     → NoEmbedding q e.mol → HitsHold q budget left' lines count (es ++ e ∷ [])

@@ -1,5 +1,5 @@
 -- The text of `run`, whole and as far as it came (this project's own).
-use Rattle.std.specs.Prelude.{◌≡◌, ◌⊎◌, ℕ, List, [], ◌∷◌, ◌++◌, length, map, All, Option, Some}
+use Rattle.std.specs.Prelude.{◌≡◌, ◌⊎◌, ℕ, List, [], ◌∷◌, ◌++◌, All, Option, Some}
 use Rattle.std.specs.List.{flat_map}
 use Rattle.htss_defs.specs.declared.shape.Shape.{Shape}
 use Rattle.mol_section.specs.Lines.{lines_of}

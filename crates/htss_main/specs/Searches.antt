@@ -2,15 +2,8 @@
 use Rattle.std.specs.Prelude.{◌≡◌, ℕ, ◌+◌, ◌<◌, ◌≤◌, List, Option, Some, None, length}
 use Rattle.std.specs.List.{flat_map}
 use Rattle.htss_defs.specs.declared.history.Hit.{Hit}
-use Rattle.htss_defs.specs.declared.needs.Need.{Need}
 use Rattle.htss_defs.specs.declared.record.NamedMol.{NamedMol}
-use Rattle.htss_defs.specs.Molecule.{Molecule, IsMolecule}
 use Rattle.htss_defs.specs.QueryGraph.{QueryGraph}
-use Rattle.htss_defs.specs.Marked.{IsMarked}
-use Rattle.htss_defs.specs.Embedding.{NoEmbedding}
-use Rattle.htss_defs.specs.Codes.{codes_at}
-use Rattle.htss_defs.specs.Needs.{need_at, Covers}
-use Rattle.htss_defs.specs.Screened.{IsPivot, IsScreened}
 use Rattle.htss_defs.specs.History.{publications}
 use Rattle.htss_defs.specs.Hits.{AreHits}
 use Rattle.htss_defs.specs.Reply.{Numbered, AreScreened, atoms_of, work}
@@ -20,18 +13,6 @@ use Rattle.hit_report.specs.HitLines.{hit_line}
 pub record Asked : Type 0 where
   pub query : QueryGraph
   pub budget : ℕ
-
--- some atom of the molecule covers the need
-pub record HasCover (need : Need) (m : Molecule) : Type 0 where
-  pub place : ℕ
-  pub within : (1 ≤ place) × (place ≤ length m.atoms)
-  pub covers : Covers need (codes_at m place)
-
--- the need is that of the pivot of the query, and a molecule that is not screened by it has no embedding
-pub record Screens (query : QueryGraph) (pivot : ℕ) (need : Need) : Type 0 where
-  pub is_pivot : IsPivot query pivot
-  pub need_is : need ≡ need_at query pivot
-  pub none : (m : Molecule) → IsMolecule m → IsMarked m → (IsScreened query m → ⊥) → NoEmbedding query m
 
 -- the hits among these records, their lines and their number; and what is left of the budget for searching the screened ones
 pub record HitsHold (query : QueryGraph) (budget left : ℕ) (lines : List ℕ) (count : ℕ) (records : List NamedMol) : Type 0 where

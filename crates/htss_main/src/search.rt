@@ -1,17 +1,17 @@
 // A search of records that come one after the other, under one budget for all of them.
-ghost use Rattle.std.specs.Prelude.{◌≡◌, ℕ, ◌+◌, ◌-◌, ◌^◌, ◌<◌, ◌≤◌, ◌↔◌, ◌++◌, ◌∷◌, List, [], Some, length, IsTrue, OnOk};
+ghost use Rattle.std.specs.Prelude.{◌≡◌, ℕ, ◌+◌, ◌-◌, ◌^◌, ◌<◌, ◌≤◌, ◌++◌, ◌∷◌, List, [], Some, length, OnOk};
 ghost use Rattle.htss_defs.specs.declared.record.NamedMol.{NamedMol};
-ghost use Rattle.htss_defs.specs.Molecule.{IsMolecule};
 ghost use Rattle.htss_defs.specs.Marked.{IsMarked};
 ghost use Rattle.htss_defs.specs.History.{publications};
 ghost use Rattle.htss_defs.specs.Reply.{Reply, IsReply};
+ghost use Rattle.env_cover.specs.Screening.{HasCover, Screens};
 ghost use Rattle.htss_main.specs.FindText.{reply_text};
-ghost use Rattle.htss_main.specs.Searches.{HasCover, HitsHold, Screens, SearchHolds};
+ghost use Rattle.htss_main.specs.Searches.{HitsHold, SearchHolds};
 
 use arrayvec::ArrayVec;
 use embed::{Found, Matcher};
 use env_code::Coder;
-use env_cover::{Needs, allows_some, covers_atom, law_of_cover};
+use env_cover::{Needs, has_cover, law_of_cover};
 use hit_report::{push_count, push_hit, push_overbudget};
 use htss_defs::{Mol, Name, Need, OutOfMemory, Query};
 use std::alloc::Global;
@@ -147,23 +147,4 @@ impl<'a> Search<'a> {
             None => push_overbudget(text, budget),
         }
     }
-}
-
-// Whether some atom of the molecule covers the need. Where no atom has an element for it, none is coded.
-fn has_cover(coder: &mut Coder, need: &Need, mol: &Mol) -> bool
-    requires { IsMarked mol.now }
-    ensures cover { IsTrue result ↔ HasCover need.now mol.now }
-    ensures valid { IsMolecule mol.now }
-{
-    let atoms = mol.atoms().len() as u16;
-    if !allows_some(need, mol) {
-        return false;
-    }
-    coder.load(mol);
-    for atom in 1..atoms + 1 {
-        if covers_atom(need, coder, mol, atom) {
-            return true;
-        }
-    }
-    false
 }

@@ -17,10 +17,11 @@ use Rattle.htss_defs.specs.Screened.{IsScreened}
 use Rattle.htss_defs.specs.History.{IsLive}
 use Rattle.htss_defs.specs.Reply.{Numbered, found, over_budget, IsReply, atoms_of, work}
 use Rattle.embed.specs.Paid.{Paid}
-use Rattle.reg_model.specs.Searches.{HasSearched, IsOverTo, Counts, Screens}
+use Rattle.env_cover.specs.Screening.{Screens}
+use Rattle.env_cover.proofs.Screening.{decide_screened}
+use Rattle.reg_model.specs.Searches.{HasSearched, IsOverTo, Counts}
 use Rattle.reg_model.proofs.Events.{event-same, same_record}
 use Rattle.reg_model.proofs.Living.{decide_live}
-use Rattle.reg_model.proofs.Screening.{decide_screened}
 use Rattle.reg_model.proofs.Prefixes.{hits_to-all, hits_to-hit, hits_to-none, hits_to-passed, screened_to-all, screened_to-more, screened_to-none, screened_to-passed}
 
 pub searched-none : (q : QueryGraph) (history : List Event) (budget : ℕ) → HasSearched q history budget budget 0 0 []
@@ -64,10 +65,10 @@ searched-passed q history budget left n k count hits name mol next has live unsc
 
 -- ---- it is screened
 
-work_push : (q : QueryGraph) (records : List Numbered) (one : Numbered) → work q (records ++ one ∷ []) ≡ work q records + cost q one.mol []
+pub work_push : (q : QueryGraph) (records : List Numbered) (one : Numbered) → work q (records ++ one ∷ []) ≡ work q records + cost q one.mol []
 work_push q records one = sum_by_push (λ (r : Numbered). cost q r.mol []) records one
 
-atoms_push : (records : List Numbered) (one : Numbered) → atoms_of (records ++ one ∷ []) ≡ atoms_of records + length one.mol.atoms
+pub atoms_push : (records : List Numbered) (one : Numbered) → atoms_of (records ++ one ∷ []) ≡ atoms_of records + length one.mol.atoms
 atoms_push records one = sum_by_push (λ (r : Numbered). length r.mol.atoms) records one
 
 pub searched-none_found : (q : QueryGraph) (history : List Event) (budget left left' n k count : ℕ) (hits : List Hit) (name : List ℕ) (mol : Molecule) → n ≡ k + 1 → HasSearched q history budget left k count hits → IsLive history n name mol

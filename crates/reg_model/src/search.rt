@@ -1,16 +1,16 @@
 // A search of the records of a registry, one after the other, under one budget for all of them.
-ghost use Rattle.std.specs.Prelude.{◌≡◌, ℕ, ◌+◌, ◌<◌, ◌≤◌, ◌↔◌, List, Err, IsTrue, OnOk};
+ghost use Rattle.std.specs.Prelude.{◌≡◌, ℕ, ◌+◌, ◌<◌, ◌≤◌, List, Err, OnOk};
 ghost use Rattle.htss_defs.specs.declared.history.Event.{Event};
 ghost use Rattle.htss_defs.specs.declared.history.SearchError.{SearchError};
-ghost use Rattle.htss_defs.specs.Molecule.{IsMolecule};
 ghost use Rattle.htss_defs.specs.Marked.{IsMarked};
 ghost use Rattle.htss_defs.specs.History.{IsLive};
-ghost use Rattle.reg_model.specs.Searches.{HasCover, HasSearched, IsOverTo, Screens};
+ghost use Rattle.env_cover.specs.Screening.{Screens};
+ghost use Rattle.reg_model.specs.Searches.{HasSearched, IsOverTo};
 
 use arrayvec::ArrayVec;
 use embed::{Found, Matcher};
 use env_code::Coder;
-use env_cover::{Needs, allows_some, covers_atom, law_of_cover};
+use env_cover::{Needs, has_cover, law_of_cover};
 use htss_defs::{Hit, HitList, Mol, Name, Need, Places, Query, SearchError};
 
 /// A search for a query in the records that are live at a front. Each is screened by the codes of its
@@ -108,23 +108,4 @@ impl<'a> Search<'a> {
             Found::Spent => Err(SearchError::OverBudget { front: self.front }),
         }
     }
-}
-
-// Whether some atom of the molecule covers the need. Where no atom has an element for it, none is coded.
-fn has_cover(coder: &mut Coder, need: &Need, mol: &Mol) -> bool
-    requires { IsMarked mol.now }
-    ensures cover { IsTrue result ↔ HasCover need.now mol.now }
-    ensures valid { IsMolecule mol.now }
-{
-    let atoms = mol.atoms().len() as u16;
-    if !allows_some(need, mol) {
-        return false;
-    }
-    coder.load(mol);
-    for atom in 1..atoms + 1 {
-        if covers_atom(need, coder, mol, atom) {
-            return true;
-        }
-    }
-    false
 }

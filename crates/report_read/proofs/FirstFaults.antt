@@ -43,7 +43,7 @@ middle : (before : List Line) (line : Line) (after : List Line) → All IsLine (
 middle [] line after all = first_of IsLine line after all
 middle (x ∷ before) line after all = middle before line after (others_of IsLine x (before ++ line ∷ after) all)
 
-unspelled : (xs ys : List Line) → All IsLine xs → All IsLine ys → map line_text xs ≡ map line_text ys → xs ≡ ys
+pub unspelled : (xs ys : List Line) → All IsLine xs → All IsLine ys → map line_text xs ≡ map line_text ys → xs ≡ ys
 unspelled [] [] p q e = refl
 unspelled [] (y ∷ ys) p q e = absurd cc
 unspelled (x ∷ xs) [] p q e = absurd cc

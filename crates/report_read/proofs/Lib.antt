@@ -4,3 +4,4 @@ pub mod LineEnds
 pub mod Cuts
 pub mod Ranges
 pub mod FirstFaults
+pub mod Complete

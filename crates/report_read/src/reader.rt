@@ -1,5 +1,5 @@
 // A report, as it is read.
-ghost use Rattle.std.specs.Prelude.{◌≡◌, ◌≢◌, ◌<◌, ◌^◌, [], length, IfOk, IfErr};
+ghost use Rattle.std.specs.Prelude.{◌≡◌, ◌≢◌, ◌<◌, ◌^◌, [], length, Ok, IfOk, IfErr};
 ghost use Rattle.report_text.specs.ReportText.{report_text};
 ghost use Rattle.report_text.specs.declared.report.Report.{Report};
 ghost use Rattle.report_lines.specs.Values.{IsInGrammar};
@@ -23,7 +23,7 @@ pub struct ReportRefusal {
 }
 
 /// The report of these bytes, which have fewer than 2^32 lines, or where they leave off to be one. Writing what was read gives
-/// the same bytes.
+/// the same bytes, and reading what was written the same report.
 pub fn read_report(
     alloc: Global,
     bytes: &[u8],
@@ -31,6 +31,8 @@ pub fn read_report(
     requires { length (cut_lines bytes.now) < 2 ^ 32 }
     ensures report { IfOk result (λ read. IfOk read (λ report. IsInGrammar report × (report_text report ≡ bytes.now))) }
     ensures refused { IfOk result (λ read. IfErr read (λ refusal. IsFirstFault (cut_lines bytes.now) refusal.line)) }
+    ensures back { IfOk result (λ read. (report : Report) → IsInGrammar report → report_text report ≡ bytes.now
+        → read ≡ Ok report) }
 {
     let mut state = State::Fresh;
     let mut rest = bytes;

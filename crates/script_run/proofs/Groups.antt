@@ -15,7 +15,7 @@ use Rattle.script_text.specs.FilesByLine.{bytes_at}
 use Rattle.report_text.specs.declared.report.Block.{Block}
 use Rattle.report_rules.specs.Dealing.{Dealt, caller_of, dealt, dealt_from, dealt_group, loads_in, searches_in}
 use Rattle.report_rules.specs.Reports.{Done, done_block, done_lines, IsAnswerTo, IsByItsFile, IsToldBy}
-use Rattle.script_run.specs.Groups.{AreSameFor}
+use Rattle.script_run.specs.Groups.{AreSameFor, IsPlainBlock}
 use Rattle.script_run.specs.Steps.{AreJobsDone, AreKept, IsJobDone, Keeps, caller_for}
 use Rattle.script_run.proofs.Steps.{keeps-both, keeps-none}
 
@@ -65,7 +65,7 @@ same_caller shape loads searches (Search file budget) = refl
 -- ---- the jobs of a group
 
 pub jobs-none : (files : List (ℕ × List ℕ)) (shape : Shape) (budget log group : ℕ) (events : List Event) → AreJobsDone files shape budget log group [] events events []
-jobs-none files shape budget log group events = record { done = []; dealt_are = refl; by_files = All-nil (IsByItsFile files budget); blocks_are = refl; keeps = keeps-none log events }
+jobs-none files shape budget log group events = record { done = []; dealt_are = refl; by_files = All-nil (IsByItsFile files budget); blocks_are = refl; plain = All-nil IsPlainBlock; keeps = keeps-none log events }
 
 pub jobs-more : (files : List (ℕ × List ℕ)) (shape : Shape) (budget log group : ℕ) (jobs : List Job) (job : Job) (start old new : List Event) (blocks : List Block) (block : Block)
     → AreJobsDone files shape budget log group jobs start old blocks
@@ -88,6 +88,7 @@ jobs-more files shape budget log group jobs job start old new blocks block befor
       blocks_are =
           ap (λ first. first ++ block ∷ []) before.blocks_are ∙ ap (λ b. map done_block before.done ++ b ∷ []) step.block_is
           ∙ sym (map-append done_block before.done (one ∷ []));
+      plain = All-push IsPlainBlock blocks block before.plain step.plain;
       keeps = subst (λ lines. Keeps log start new lines) (sym (flat_map-append done_lines before.done (one ∷ [])))
           (keeps-both log start old new (flat_map done_lines before.done) (flat_map done_lines (one ∷ [])) before.keeps
           (subst (λ lines. Keeps log old new lines) (sym last) (step.answers.keeps group)));

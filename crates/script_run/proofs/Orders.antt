@@ -24,6 +24,7 @@ job-loaded files budget log number searching job old new file copy bytes lines i
       by_file = subst (λ o. IsAnswerTo (bytes_at files job.line) budget o answer) (sym is)
           (subst (λ found. IsAnswerTo found budget (order.Load file) answer) (sym has) (same, load.are_all));
       block_is = ap (λ told. Load job.line copy told) load.lines_are;
+      plain = load.plain;
       answers = subst (λ o. Answers log (caller_for number searching o) old new (answers_of answer)) (sym is) load.answers;
     }
 
@@ -38,6 +39,7 @@ job-withdrawn files budget log caller searching job old new number line is withd
   answer = withdrew number line;
   by_file = subst (λ o. IsAnswerTo (bytes_at files job.line) budget o (withdrew number line)) (sym is) (withdrawn-answer (bytes_at files job.line) budget number line);
   block_is = search rules;
+  plain = tt;
   answers = subst (λ o. Answers log (caller_for caller searching o) old new (answers_of (withdrew number line))) (sym is) withdrawal.answers;
 }
 
@@ -55,5 +57,6 @@ job-searched files budget log loading searching job events file copy bytes own u
       by_file = subst (λ o. IsAnswerTo (bytes_at files job.line) budget o answer) (sym is)
           (subst (λ found. IsAnswerTo found budget (order.Search file own) answer) (sym has) (same, subst (λ most. IsSearchFor bytes most told.answer) under told.searched));
       block_is = ap (λ shown. Search job.line copy shown) told.line_is;
+      plain = told.plain;
       answers = subst (λ o. Answers log (caller_for loading searching o) events events (answers_of answer)) (sym is) (told.answers searching);
     }

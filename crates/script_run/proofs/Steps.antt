@@ -74,6 +74,7 @@ pub taken-published : (number : ℕ) (old new : Registry) (place event : ℕ) (o
 taken-published number old new place event one copy next added same = record {
   fate = published event;
   line_is = ap (λ name. Published event name) same;
+  plain = tt;
   answers =
       subst (λ events. Answers old.log (loader number) old.events events (to_record (taken one (published event)) ∷ [])) (sym (ap (λ r. r.events) added))
       (subst (λ at. Answers old.log (loader number) old.events (old.events ++ Publish number one.name one.mol ∷ []) (to_record (taken one (published at)) ∷ [])) (sym next)
@@ -85,6 +86,7 @@ pub taken-full : (number : ℕ) (old new : Registry) (place front : ℕ) (one : 
 taken-full number old new place front one full at same = record {
   fate = log_full front;
   line_is = search rules;
+  plain = tt;
   answers =
       subst (λ events. Answers old.log (loader number) old.events events (to_record (taken one (log_full front)) ∷ [])) (sym (ap (λ r. r.events) same))
       (subst (λ front. Answers old.log (loader number) old.events old.events (to_record (taken one (log_full front)) ∷ [])) (sym at)
@@ -168,6 +170,7 @@ searched-refused log events bytes budget line code refused = record {
   answer = not_read line code;
   searched = refused;
   line_is = search rules;
+  plain = tt;
   answers = λ number. answers-one log (searcher number) events events (to_search (not_read line code))
       (λ group shape earlier same are. kept-still shape events earlier (record { group = group; caller = searcher number; answer = to_search (not_read line code) }) are tt);
 }
@@ -196,6 +199,7 @@ searched-told log events bytes asked budget (Hits front hits rows records) is to
       answer = hits_at asked budget front hits rows records;
       searched = (is, search rules);
       line_is = search rules;
+      plain = told.3;
       answers = λ number. subst (λ at. Answers log (searcher number) events events (to_search (hits_at asked budget at hits rows records) ∷ [])) (sym told.0)
           (found-answers log events asked budget number hits rows records (subst asks told.0 told.1) (subst (λ at. Counts asked (take at events) records) told.0 told.2));
     }
@@ -203,6 +207,7 @@ searched-told log events bytes asked budget (OverBudget front own) is told = rec
   answer = over_at asked own front;
   searched = (is, told.1);
   line_is = search rules;
+  plain = tt;
   answers = λ number. subst (λ at. Answers log (searcher number) events events (to_search (over_at asked own at) ∷ [])) (sym told.0)
       (over-answers log events asked own number (subst (λ at. IsReply asked own (take at events) over_budget) told.0 (subst (λ most. IsReply asked most (take front events) over_budget) (sym told.1) told.2)));
 }

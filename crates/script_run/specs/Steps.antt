@@ -25,6 +25,7 @@ use Rattle.report_rules.specs.Answers.{answers_of, block_of, fate_line, outcome_
 use Rattle.report_rules.specs.Dealing.{Caller, loader, searcher, dealt_from}
 use Rattle.report_rules.specs.Rules.{Line, KeepsRule}
 use Rattle.report_rules.specs.Reports.{Done, done_block, done_lines, IsAnswerTo, IsByItsFile, IsSearchFor}
+use Rattle.script_run.specs.Groups.{IsPlainBlock, IsPlainLine, IsPlainSearch}
 
 -- each line keeps its rule in this history, and each event is named by one
 pub record AreKept (shape : Shape) (history : List Event) (lines : List Line) : Type 0 where
@@ -63,6 +64,7 @@ pub record GoesOn (caller : ℕ) (old new : Registry) : Type 0 where
 pub record IsTaken (log number : ℕ) (old new : List Event) (place : ℕ) (one : NamedMol) (line : LoadLine) : Type 0 where
   pub fate : Fate
   pub line_is : line ≡ fate_line place one.name fate
+  pub plain : IsPlainLine line
   pub answers : Answers log (loader number) old new (to_record (taken one fate) ∷ [])
 
 -- the records read so far are answered with these lines
@@ -70,6 +72,7 @@ pub record AreLoaded (log number : ℕ) (old new : List Event) (stream : List �
   pub records : List RecordAnswer
   pub read : HasRead stream (map outcome_of records) reader
   pub lines_are : lines ≡ record_lines 1 records
+  pub plain : All IsPlainLine lines
   pub answers : Answers log (loader number) old new (map to_record records)
 
 -- all records of the file are answered with these lines
@@ -77,6 +80,7 @@ pub record IsLoaded (log number : ℕ) (old new : List Event) (bytes : List ℕ)
   pub records : List RecordAnswer
   pub are_all : IsRecordList bytes (map outcome_of records)
   pub lines_are : lines ≡ record_lines 1 records
+  pub plain : All IsPlainLine lines
   pub answers : Answers log (loader number) old new (map to_record records)
 
 -- the withdrawal of a number is answered so
@@ -86,7 +90,7 @@ pub record IsWithdrawal (log caller : ℕ) (old new : List Event) (number : ℕ)
 -- the line tells what a search for the query finds in all these events under the budget
 abbrev pub TellsReply : List Event → QueryGraph → ℕ → SearchLine → Type 0
 TellsReply events query budget (Hits front hits rows records) =
-    (front ≡ length events) × IsReply query budget (take front events) (found hits) × Counts query (take front events) records
+    (front ≡ length events) × IsReply query budget (take front events) (found hits) × Counts query (take front events) records × (rows ≡ 0)
 TellsReply events query budget (OverBudget front own) =
     (front ≡ length events) × (own ≡ budget) × IsReply query budget (take front events) over_budget
 TellsReply events query budget (Refused line code) = ⊥
@@ -96,6 +100,7 @@ pub record IsSearched (log : ℕ) (events : List Event) (bytes : List ℕ) (budg
   pub answer : SearchAnswer
   pub searched : IsSearchFor bytes budget answer
   pub line_is : line ≡ search_line answer
+  pub plain : IsPlainSearch line
   pub answers : (number : ℕ) → Answers log (searcher number) events events (to_search answer ∷ [])
 
 -- the loader of this number does loads and withdrawals, the searcher of that number searches
@@ -109,6 +114,7 @@ pub record IsJobDone (files : List (ℕ × List ℕ)) (budget log : ℕ) (caller
   pub answer : JobAnswer
   pub by_file : IsAnswerTo (bytes_at files job.line) budget job.order answer
   pub block_is : block ≡ block_of job.line answer
+  pub plain : IsPlainBlock block
   pub answers : Answers log caller old new (answers_of answer)
 
 -- the jobs of a group so far are answered with these blocks
@@ -117,4 +123,5 @@ pub record AreJobsDone (files : List (ℕ × List ℕ)) (shape : Shape) (budget 
   pub dealt_are : map (λ one. one.dealt) done ≡ dealt_from shape group 0 0 jobs
   pub by_files : All (IsByItsFile files budget) done
   pub blocks_are : blocks ≡ map done_block done
+  pub plain : All IsPlainBlock blocks
   pub keeps : Keeps log old new (flat_map done_lines done)

@@ -5,14 +5,14 @@ use arrayvec::ArrayVec;
 use htss_defs::{FileName, Hit, Name, OutOfMemory, Places};
 use std::alloc::Global;
 
-// A copy of the name.
+/// A copy of the name.
 pub fn copied_name(name: &Name) -> Name
     ensures { result ≡ name.now }
 {
     Name::new(name.bytes()).unwrap()
 }
 
-// A copy of the file name.
+/// A copy of the file name. An `Err` is want of memory.
 pub fn copied_file(alloc: Global, file: &FileName) -> Result<FileName, OutOfMemory>
     ensures { IfOk result (λ copy. copy ≡ file.now) }
 {
@@ -32,7 +32,7 @@ fn copied_places(places: &Places) -> Places
     Places::new(copy)
 }
 
-// A copy of the hits.
+/// A copy of the hits. An `Err` is want of memory.
 pub fn copied_hits(alloc: Global, hits: &[Hit]) -> Result<Vec<Hit>, OutOfMemory>
     requires { All (λ hit. length hit.map ≤ 64) hits.now }
     ensures { IfOk result (λ copy. copy.items ≡ hits.now) }

@@ -13,7 +13,7 @@ use report_text::{Block, Hits, LoadLines, SearchLine, WithdrawLine};
 use script_text::{Files, Job, Order};
 use std::alloc::Global;
 
-// Does a job, and answers its block. The list of hits is only there to be used again.
+/// Does a job, and answers its block. The list of hits is only there to be used again. An `Err` is want of memory.
 pub fn do_job(
     alloc: Global,
     registry: &mut PlainRegistry,

@@ -17,7 +17,7 @@ use std::alloc::Global;
 // How many bytes of a file are read at once.
 const PIECE_SIZE: usize = 65536;
 
-// Publishes the records of the file, and answers a line for each.
+/// Publishes the records of the file, and answers a line for each. An `Err` is want of memory; what was published before stays.
 pub fn load_file(
     alloc: Global,
     registry: &mut PlainRegistry,

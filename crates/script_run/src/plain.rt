@@ -6,7 +6,7 @@ ghost use Rattle.script_text.specs.declared.script.Group.{Group};
 ghost use Rattle.report_text.specs.declared.report.Block.{Block};
 ghost use Rattle.report_rules.specs.Dealing.{loads_in};
 ghost use Rattle.report_rules.specs.Reports.{IsByLoader, IsToldBy};
-ghost use Rattle.script_run.specs.Groups.{AreSameFor, AreThere, HasGrown};
+ghost use Rattle.script_run.specs.Groups.{AreSameFor, AreThere, HasGrown, IsPlainBlock};
 
 use crate::jobs::do_job;
 use htss_defs::{HitList, OutOfMemory, Shape};
@@ -18,6 +18,7 @@ use std::alloc::Global;
 /// Does the jobs of the group in their order, and answers a block for each. The files have the bytes of each job's file by its
 /// line; the registry holds as many events as the shape's log. A search without a budget of its own has the given one.
 /// Where the blocks so far tell of the registry's events for the groups so far, they do so with these blocks for one group more.
+/// No record is refused for want of room, of a page or of a chain, and no search has looked at rows.
 /// After an `Err` the registry has the events of what was done before.
 pub fn plain_group(
     alloc: Global,
@@ -36,6 +37,7 @@ pub fn plain_group(
         → AreSameFor others files.now group.now.jobs
         → IsToldBy before others shape.now budget registry.old.events earlier
         → IsToldBy (before ++ group.now ∷ []) others shape.now budget registry.new.events (earlier ++ blocks.items)) }
+    ensures plain { IfOk result (λ blocks. All IsPlainBlock blocks.items) }
     ensures log { registry.new.log ≡ registry.old.log }
     ensures marked { AreMarked registry.new.events }
     ensures loaders { All (IsByLoader shape.now) registry.new.events }

@@ -2,7 +2,7 @@ use Rattle.std.proofs.Common.{rules, [], ◌∷◌, ◌++◌, take, sym, subst}
 use Rattle.std.specs.Prelude.{All}
 use Rattle.std.proofs.lemmas.Result.{err_from_is_err_and}
 use Rattle.htss_main.specs.RunText.{CanBeRead, file_named}
-use Rattle.htss_main.specs.Ends.{ShelfGoesOn, seen}
+use Rattle.htss_main.specs.Ends.{seen}
 use Rattle.htss_main.specs.Runs.{HaveFiles, IsAfter}
 use Rattle.htss_main.proofs.JobFiles.{have_next, stops_among, were_read_more}
 use Rattle.htss_main.proofs.Rising.{after_those_before}

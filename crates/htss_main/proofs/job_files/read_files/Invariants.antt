@@ -1,4 +1,4 @@
-use Rattle.std.proofs.Common.{◌≡◌, take}
+use Rattle.std.proofs.Common.{take}
 use Rattle.std.specs.Prelude.{All}
 use Rattle.htss_main.specs.RunText.{CanBeRead, files_named}
 use Rattle.htss_main.specs.Ends.{ShelfGoesOn, seen}

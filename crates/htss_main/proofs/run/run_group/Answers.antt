@@ -1,4 +1,3 @@
-use Rattle.std.specs.Prelude.{◌++◌, ◌∷◌}
 use Rattle.std.proofs.lemmas.Result.{err_from_is_err_and}
 use Rattle.htss_main.specs.Ends.{seen}
 use Rattle.htss_main.proofs.Running.{any_time_in_group, are_there, done_more, stops_at_file}

@@ -1,4 +1,4 @@
-use Rattle.std.proofs.Common.{◌≡◌, ℕ, List, take}
+use Rattle.std.proofs.Common.{ℕ, List, take}
 use Rattle.htss_main.specs.RunText.{ScriptWasRead}
 use Rattle.htss_main.specs.Ends.{ShelfGoesOn, seen}
 use Rattle.htss_main.specs.Runs.{HasDone, IsOpen}

@@ -3,6 +3,8 @@ use Rattle.std.proofs.lemmas.Result.{IfOk-weaker}
 use Rattle.report_read.specs.Runs.{IsReadTo}
 use Rattle.report_read.specs.StageOf.{stage_of}
 use Rattle.report_read.proofs.FirstFaults.{answer_refused, answer_whole, few_lines, read_past, refused_at, tail}
+use Rattle.report_read.specs.Faults.{IsFirstFault, cut_lines}
+use Rattle.report_read.proofs.Complete.{no_fault, reads_back}
 use Rattle.report_read.proofs.reader.read_report.Goals as goal
 
 pub returns-in_default-2-clause-refused : goal.returns-in_default-2-clause-refused
@@ -29,3 +31,11 @@ pub returns-clause-refused : goal.returns-clause-refused
 returns-clause-refused c =
     let none = rw c.in_default.is at c.memchr.ensures in
     answer_refused c.args.bytes.now c.loop-end.rest.now c.loop-end.number (stage_of c.loop-end.state) c.loop-end.invariant c.requires none c.finish.result c.finish.ensures.cut c.finish.ensures.short
+
+pub returns-in_default-2-clause-back : goal.returns-in_default-2-clause-back
+returns-in_default-2-clause-back c = λ report good text.
+    absurd (no_fault report c.loop-end.number good (subst (λ (bytes : List ℕ). IsFirstFault (cut_lines bytes) c.loop-end.number) (sym text) (returns-in_default-2-clause-refused c)))
+
+pub returns-clause-back : goal.returns-clause-back
+returns-clause-back c = λ report good text.
+    reads_back report c.args.bytes.now c.finish.result good text (returns-clause-report c) (returns-clause-refused c)

@@ -1,6 +1,7 @@
 use Rattle.std.proofs.Common.{sym, subst, ◌∙◌}
 use Rattle.htss_defs.specs.declared.record.NamedMol.{NamedMol}
 use Rattle.report_rules.specs.Answers.{taken, not_accepted}
+use Rattle.script_run.specs.Groups.{IsPlainLine}
 use Rattle.script_run.specs.Steps.{AreLoaded, GoesOn, IsTaken}
 use Rattle.script_run.proofs.Registries.{goes_on-both}
 use Rattle.script_run.proofs.Steps.{refused-answers}
@@ -38,7 +39,7 @@ loop-place-preserved c =
             subst (λ r. AreLoaded c.args.registry.now.log c.args.loader start r.events stream c.next_record.new.self c.push.new.self.items) (sym w.registry-is)
             (loaded-more c.args.registry.now.log c.args.loader start c.loop-place.registry.events w.publish.new.registry.events stream c.loop-place.reader c.next_record.new.self
             c.loop-place.lines.items c.push.new.self.items c.match-branch-2.line w.in-Accepted.place (taken one step.fate)
-            c.in_ok-push.ensures.items (took.0 ∙ took.1.place) reads (w.line-is ∙ step.line_is) step.answers (so_far.loaded start stream before));
+            c.in_ok-push.ensures.items (took.0 ∙ took.1.place) reads (w.line-is ∙ step.line_is) (subst (λ l. IsPlainLine l) (sym w.line-is) step.plain) step.answers (so_far.loaded start stream before));
       }
       | in-Refused w ↦ record {
         finished = kept.1 ∙ so_far.finished;
@@ -51,7 +52,7 @@ loop-place-preserved c =
             subst (λ r. AreLoaded c.args.registry.now.log c.args.loader start r.events stream c.next_record.new.self c.push.new.self.items) (sym w.registry-is)
             (loaded-more c.args.registry.now.log c.args.loader start c.loop-place.registry.events c.loop-place.registry.events stream c.loop-place.reader c.next_record.new.self
             c.loop-place.lines.items c.push.new.self.items c.match-branch-2.line w.in-Refused.place one
-            c.in_ok-push.ensures.items (took.0 ∙ took.1.place) reads w.line-is
+            c.in_ok-push.ensures.items (took.0 ∙ took.1.place) reads w.line-is (subst (λ l. IsPlainLine l) (sym w.line-is) tt)
             (refused-answers c.args.registry.now.log c.args.loader c.loop-place.registry.events w.in-Refused.line w.in-Refused.code) (so_far.loaded start stream before));
       }
     ]

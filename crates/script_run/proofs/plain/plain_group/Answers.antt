@@ -73,3 +73,6 @@ returns-clause-told c = λ before others earlier same told.
     (so_far.jobs_done (1 + length before)) in
     group-told c.args.files.now others c.args.shape.now c.args.budget size c.args.registry.now.events c.loop-job.registry.events before c.args.group.now earlier c.loop-job.blocks.items
     (sym c.requires.log) mine same told
+
+pub returns-clause-plain : goal.returns-clause-plain
+returns-clause-plain c = (c.loop-job.invariant.jobs_done 0).plain

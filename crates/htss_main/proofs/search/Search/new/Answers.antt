@@ -1,8 +1,8 @@
 use Rattle.std.proofs.Common.{ap, sym, subst, ◌∙◌, arith}
 use Rattle.htss_defs.specs.Screened.{IsPivot}
 use Rattle.htss_defs.specs.Needs.{need_at}
-use Rattle.htss_main.specs.Searches.{Screens}
-use Rattle.htss_main.proofs.ScreenedRecords.{screens-made}
+use Rattle.env_cover.specs.Screening.{Screens}
+use Rattle.env_cover.proofs.Screening.{screens-made}
 use Rattle.htss_main.proofs.Searching.{HitsHold-none}
 use Rattle.htss_main.proofs.search.Search.new.Goals as goal
 

@@ -1,6 +1,6 @@
 use Rattle.std.proofs.Common.{◌+◌, sym, refl, subst}
 use Rattle.htss_defs.specs.Embedding.{IsLeastEmbedding}
-use Rattle.htss_main.proofs.ScreenedRecords.{screened-covered}
+use Rattle.env_cover.proofs.Screening.{screened-covered}
 use Rattle.htss_main.proofs.Searching.{HitsHold-hit, HitsHold-none_found, IsOver-spent}
 use Rattle.htss_main.proofs.search.Search.search.Goals as goal
 

@@ -1,7 +1,7 @@
 use Rattle.std.proofs.Common.{◌+◌, sym, ap, ◌∙◌}
 use Rattle.std.proofs.lemmas.Bool.{false≢true}
 use Rattle.std.proofs.lemmas.Result.{on_ok_weaker}
-use Rattle.htss_main.proofs.ScreenedRecords.{decide_screened, screened-uncovered}
+use Rattle.env_cover.proofs.Screening.{decide_screened, screened-uncovered}
 use Rattle.htss_main.proofs.Searching.{HitsHold-passed, IsOver-more, holds-left, holds-over, holds-spent, holds-under}
 use Rattle.htss_main.proofs.search.Search.take.Goals as goal
 

@@ -1,5 +1,5 @@
 -- Whether some atom of a molecule covers a need can be decided.
-use Rattle.std.proofs.Common.{◌≡◌, ℕ, zero, suc, ◌+◌, ◌-◌, ◌<◌, ◌≤◌, ◌⊎◌, length, refl, subst, inl, inr, arith}
+use Rattle.std.proofs.Common.{ℕ, zero, suc, ◌+◌, ◌-◌, ◌<◌, ◌≤◌, ◌⊎◌, length, refl, subst, inl, inr, arith}
 use Rattle.std.specs.Prelude.{Bool, true, false, IsTrue, slice_index}
 use Rattle.std.proofs.lemmas.Bool.{cases_lt, false≢true}
 use Rattle.htss_defs.specs.declared.codes.Codes.{Codes}
@@ -8,7 +8,7 @@ use Rattle.htss_defs.specs.Molecule.{Molecule}
 use Rattle.htss_defs.specs.Passes.{allows}
 use Rattle.htss_defs.specs.Codes.{lane, codes_at}
 use Rattle.htss_defs.specs.Needs.{Covers}
-use Rattle.reg_model.specs.Searches.{HasCover}
+use Rattle.env_cover.specs.Screening.{HasCover}
 
 abbrev pub Decision : Type 0 → Type 0
 Decision P = P ⊎ (P → ⊥)
@@ -19,12 +19,6 @@ decide_true false = inr false≢true
 
 decide_le : (m n : ℕ) → Decision (m ≤ n)
 decide_le m n = elim (cases_lt n m) [ inl less ↦ inr (λ le. absurd (omega (arith, less, le))) | inr le ↦ inl le ]
-
-pub decide_same : (m n : ℕ) → Decision (m ≡ n)
-decide_same m n = elim (cases_lt m n) [
-  | inl less ↦ inr (λ is. absurd (omega (arith, less, is)))
-  | inr le ↦ elim (cases_lt n m) [ inl more ↦ inr (λ is. absurd (omega (arith, more, is))) | inr ge ↦ inl (omega (arith, le, ge)) ]
-]
 
 -- whether all numbers below n do
 decide_all : (P : ℕ → Type 0) → ((k : ℕ) → Decision (P k)) → (n : ℕ) → Decision ((k : ℕ) → k < n → P k)

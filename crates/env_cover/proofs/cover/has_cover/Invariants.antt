@@ -1,7 +1,7 @@
 use Rattle.std.proofs.Common.{ℕ, ◌≤◌, ◌<◌}
 use Rattle.htss_defs.specs.Codes.{codes_at}
 use Rattle.htss_defs.specs.Needs.{Covers}
-use Rattle.htss_main.proofs.search.has_cover.Given as goal
+use Rattle.env_cover.proofs.cover.has_cover.Given as goal
 
 abbrev pub invariant-loop-atom : goal.invariant-loop-atom
 invariant-loop-atom l = (place : ℕ) → 1 ≤ place → place < l.atom → Covers l.need (codes_at l.mol place) → ⊥

@@ -9,8 +9,8 @@ use Rattle.htss_defs.specs.Codes.{codes_at}
 use Rattle.htss_defs.specs.Needs.{Covers, need_at}
 use Rattle.htss_defs.specs.Screened.{IsPivot, IsScreened}
 use Rattle.env_cover.specs.Law.{LawOfScreening}
-use Rattle.reg_model.specs.Searches.{HasCover, Screens}
-use Rattle.reg_model.proofs.Deciding.{Decision, decide_cover}
+use Rattle.env_cover.specs.Screening.{HasCover, Screens}
+use Rattle.env_cover.proofs.Deciding.{Decision, decide_cover}
 
 pivot_unique : (q : QueryGraph) (u v : ℕ) → IsPivot q u → IsPivot q v → u ≡ v
 pivot_unique q u v first second = elim (cases_lt u v) [

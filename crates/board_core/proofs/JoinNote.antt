@@ -1,0 +1,106 @@
+-- A seat is joined: a note is heard.
+use Rattle.std.proofs.Common.{◌≡◌, ◌≢◌, ℕ, ◌+◌, ◌≤◌, List, max, set, sym, refl, ap, ◌∙◌, arith}
+use mathlib.Core.Option.{some}
+use lib.ListN.{get_elem?}
+use Rattle.atomic_table.specs.Table.{Joins}
+use Rattle.htss_defs.specs.declared.shape.Shape.{Shape}
+use Rattle.htss_defs.specs.declared.history.Event.{Event}
+use Rattle.board_core.specs.declared.account.Account.{Account}
+use Rattle.board_core.specs.declared.account.View.{View}
+use Rattle.board_core.specs.declared.account.Who.TheVariants.{Note, Gone}
+use Rattle.board_core.specs.declared.log.Holding.{Holding}
+use Rattle.board_core.specs.declared.log.Holding.TheVariants.{Away, Taken, Fronted}
+use Rattle.board_core.specs.Each.{Each, sum_of}
+use Rattle.board_core.specs.Words.{LogWords, Parts, parts_of}
+use Rattle.board_core.specs.Histories.{history_of}
+use Rattle.board_core.specs.Accounts.{account, with_me, gone, view, accounts_in, total}
+use Rattle.board_core.specs.SeatRule.{WhoFits, made}
+use Rattle.board_core.specs.LogRule.{Hand, hand_of, is_held, word_or_0, Holds as HoldsLock, HandFits, LogRule}
+use Rattle.board_core.specs.Truths.{IsTrueLog, IsTrueStory}
+use Rattle.board_core.specs.LoadRule.{LoadFits}
+use Rattle.board_core.specs.Holds.{Rule, Holds}
+use Rattle.board_core.specs.After.{after_hear}
+use Rattle.board_core.proofs.Lists.{each_none, each_kept}
+use Rattle.board_core.proofs.Everyone.{changed, total_same, each_left, total_left}
+use Rattle.board_core.proofs.LogFrame.{hand_at, quiet_fits}
+use Rattle.board_core.proofs.StoryFrame.{stories_same}
+use Rattle.board_core.proofs.LoadFrame.{loads_same, not_later}
+use Rattle.board_core.proofs.Stepped.{by_log}
+use Rattle.atomic_table.proofs.Lists.{set_else}
+use Rattle.board_core.specs.Accounts.{made_by, is_opener, is_seat}
+use Rattle.board_core.proofs.Callers.{seat_none}
+
+-- ---- a note's seat goes
+
+left_same : (f : Account → ℕ) (vs : List View) (other front : ℕ) (w : View) → get_elem? vs other ≡ some w → w ≡ view w.shape (account Note front) → f (account Note front) ≡ 0 → f (account Gone 0) ≡ 0 → total f (set vs other gone) ≡ total f vs
+left_same f vs other front w there is blank none_gone =
+    let sum : total f (set vs other gone) + sum_of f (accounts_in w) ≡ total f vs = total_left f vs other w there none_gone in
+    let of_note : sum_of f (accounts_in w) ≡ f (account Note front) + 0 = ap (λ (x : View). sum_of f (accounts_in x)) is in omega arith
+
+pub note_goes : (k : Shape) (p : Parts) (h : List Event) (vs : List View) (other front : ℕ) (w : View) → Rule k p h vs → get_elem? vs other ≡ some w → w ≡ view w.shape (account Note front) → Rule k p h (set vs other gone)
+note_goes k p h vs other front w r there is =
+    let count : (f : Account → ℕ) → f (account Note front) ≡ 0 → f (account Gone 0) ≡ 0 → total f (set vs other gone) ≡ total f vs = λ f blank none_gone. left_same f vs other front w there is blank none_gone in
+    let as_many : made (set vs other gone) ≡ made vs = count (λ x. made_by x.who) refl refl in record {
+      seats = record {
+        shapes = each_kept (λ (u : View). u.me.who ≢ Gone → u.shape ≡ k) vs other gone (λ here. absurd (here refl)) r.seats.shapes;
+        limits = each_left (λ x. WhoFits k x.who) vs other tt r.seats.limits;
+        one_opener = count (λ x. is_opener x.who) refl refl ∙ r.seats.one_opener;
+        callers = λ c above within. count (λ x. is_seat k c x.who) (seat_none k c Note refl above) (seat_none k c Gone refl above) ∙ r.seats.callers c above (omega arith);
+        none_past = λ c past. count (λ x. is_seat k c x.who) (seat_none k c Note refl (omega arith)) (seat_none k c Gone refl (omega arith)) ∙ r.seats.none_past c (omega arith);
+      };
+      log = record {
+        front = r.log.front;
+        counted = r.log.counted;
+        legal = r.log.legal;
+        callers = r.log.callers;
+        blank = r.log.blank;
+        next = r.log.next ∙ sym (count (λ x. word_or_0 x.log.pending.logged) refl refl);
+        lock = count (λ x. is_held x.log.holding) refl refl ∙ r.log.lock;
+        hands = each_left (λ x. HandFits k p.log h (hand_of x)) vs other (quiet_fits k p.log h (hand_of (account Gone 0)) (omega arith) refl refl) r.log.hands;
+      };
+      stories = record {
+        stories = each_left (λ x. IsTrueStory k h x.who x.entries) vs other record { each = each_none (λ e. IsTrueLog k h e.entry); own = refl } r.stories.stories;
+        none_before = λ c past. r.stories.none_before c (omega arith);
+      };
+      loads = each_left (λ x. Each (LoadFits k p.log) x.loads.shown) vs other (each_none (LoadFits k p.log)) r.loads;
+    }
+
+-- ---- the hearer's front
+
+-- the front stays where the caller had it already
+heard_holds : (w : LogWords) (x : Hand) (front : ℕ) (b : Holding) → front ≤ w.front → HoldsLock w x b → HoldsLock w record { who = x.who; log = record { seen = max x.log.seen front; holding = x.log.holding; pending = x.log.pending } } b
+heard_holds w x front Away seen holds = holds
+heard_holds w x front Taken seen holds = holds
+heard_holds w x front Fronted seen holds = let same : x.log.seen ≡ w.front = holds.1 in (holds.0, omega arith)
+
+hear_log : (k : Shape) (w : LogWords) (h : List Event) (vs : List View) (id front : ℕ) (v : View) → LogRule k w h vs → get_elem? vs id ≡ some v → front ≤ w.front → LogRule k w h (set vs id (with_me v (after_hear v.me front)))
+hear_log k w h vs id front v r at seen = let f = hand_at k w h vs id v r at in let own = f.seen in record {
+  front = r.front;
+  counted = r.counted;
+  legal = r.legal;
+  callers = r.callers;
+  blank = r.blank;
+  next = r.next ∙ sym (total_same (λ x. word_or_0 x.log.pending.logged) vs id v (after_hear v.me front) at refl);
+  lock = total_same (λ x. is_held x.log.holding) vs id v (after_hear v.me front) at refl ∙ r.lock;
+  hands = changed (λ x. HandFits k w h (hand_of x)) vs id v (after_hear v.me front) at
+      record { seen = omega arith; holds = heard_holds w (hand_of v.me) front v.me.log.holding seen f.holds; shows = f.shows; ends = f.ends; logged = f.logged } r.hands;
+}
+
+pub hear : (k : Shape) (p : Parts) (h : List Event) (vs : List View) (id front : ℕ) (v : View) → Rule k p h vs → get_elem? vs id ≡ some v → front ≤ p.log.front → Rule k p h (set vs id (with_me v (after_hear v.me front)))
+hear k p h vs id front v r at seen = by_log k p p h h vs id v (after_hear v.me front) r at
+    record { who = refl; pool_words = refl; page_words = refl; pool = refl; tree = refl; counts = refl }
+    record { words = refl; room = refl }
+    (hear_log k p.log h vs id front v r.log at seen)
+    (stories_same k h vs id v (after_hear v.me front) r.stories at refl refl)
+    (loads_same k p.log p.log vs id v (after_hear v.me front) r.loads at (not_later p.log p.log refl refl) refl)
+
+pub note_joins : (k : Shape) (id other front : ℕ) (v w : View) → w ≡ view w.shape (account Note front) → Joins (Holds k) id v other w (with_me v (after_hear v.me w.me.log.seen)) gone
+note_joins k id other front v w is s h at apart moved_there =
+    let p : Parts = parts_of k s.words in
+    let told : ℕ = w.me.log.seen in
+    let mid : List View = set s.views id (with_me v (after_hear v.me told)) in
+    let there : get_elem? s.views other ≡ some w = sym (set_else s.views id other (with_me v (after_hear v.me told)) apart) ∙ moved_there in
+    let seen = (hand_at k p.log (history_of k p) s.views other w h.rule.log there).seen in record {
+      wide = h.wide;
+      rule = note_goes k p (history_of k p) mid other front w (hear k p (history_of k p) s.views id told v h.rule at seen) moved_there is;
+    }

@@ -1,0 +1,127 @@
+-- A board as it is opened.
+use Rattle.std.proofs.Common.{◌≡◌, ◌≢◌, ℕ, zero, suc, ◌+◌, ◌*◌, ◌-◌, ◌<◌, ◌≤◌, List, [], ◌∷◌, ◌++◌, length, get_or, sym, refl, ap, ◌∙◌, arith, length-append}
+use Rattle.htss_defs.specs.declared.shape.Shape.{Shape}
+use Rattle.board_core.specs.declared.account.Account.{Account}
+use Rattle.board_core.specs.declared.account.View.{View}
+use Rattle.board_core.specs.declared.account.Who.TheVariants.{Opener, Gone}
+use Rattle.board_core.specs.Each.{Each}
+use Rattle.board_core.specs.Words.{Parts, parts_of, total_of, log_at}
+use Rattle.board_core.specs.Accounts.{account, view, accounts_in, EachAccount}
+use Rattle.board_core.specs.SeatRule.{WhoFits}
+use Rattle.board_core.specs.LogRule.{hand_of, HandFits, IsByLoader}
+use Rattle.board_core.specs.Truths.{IsTrueLog, IsTrueStory}
+use Rattle.board_core.specs.LoadRule.{LoadFits}
+use Rattle.board_core.specs.Holds.{Rule, Holds}
+use Rattle.board_core.proofs.Lists.{each_none, each_cons}
+use Rattle.board_core.proofs.LogFrame.{quiet_fits, taken_none}
+use Rattle.std.proofs.Common.{take, drop}
+use Rattle.std.proofs.lemmas.List.{length-replicate}
+use lib.Seq.{get_or-drop}
+use Rattle.atomic_table.specs.Table.{opening}
+use Rattle.htss_defs.specs.History.{IsLegal, Withdraws}
+use Rattle.board_core.specs.Words.{part, zeros, regions_size, opening_words}
+use Rattle.board_core.specs.Accounts.{opener}
+use Rattle.board_core.proofs.Callers.{seat_none}
+use Rattle.board_core.proofs.Events.{event_within}
+use Rattle.htss_defs.specs.declared.history.Event.TheVariants.{Withdraw}
+
+blank_at : (n i : ℕ) → get_or (zeros n) i 0 ≡ 0
+blank_at zero i = refl
+blank_at (suc n) zero = refl
+blank_at (suc n) (suc i) = blank_at n i
+
+blank_take : (l : List ℕ) (n i : ℕ) → ((j : ℕ) → get_or l j 0 ≡ 0) → get_or (take n l) i 0 ≡ 0
+blank_take l zero i blank = refl
+blank_take [] (suc n) i blank = refl
+blank_take (x ∷ xs) (suc n) zero blank = blank zero
+blank_take (x ∷ xs) (suc n) (suc i) blank = blank_take xs n i (λ j. blank (suc j))
+
+-- a list with so many words before, and no other word than 0 after them
+abbrev IsBlankFrom : ℕ → List ℕ → Type 0
+IsBlankFrom from ws = (i : ℕ) → from ≤ i → get_or ws i 0 ≡ 0
+
+blank_cons : (from n : ℕ) (ws : List ℕ) → IsBlankFrom from ws → IsBlankFrom (suc from) (n ∷ ws)
+blank_cons from n ws blank zero past = absurd (omega arith)
+blank_cons from n ws blank (suc i) past = blank i (omega arith)
+
+blank_after : (count from : ℕ) (ws : List ℕ) → IsBlankFrom from ws → IsBlankFrom (count + from) (zeros count ++ ws)
+blank_after zero from ws blank i past = blank i (omega arith)
+blank_after (suc count) from ws blank zero past = absurd (omega arith)
+blank_after (suc count) from ws blank (suc i) past = blank_after count from ws blank i (omega arith)
+
+blank_later : (from more : ℕ) (ws : List ℕ) → from ≤ more → IsBlankFrom from ws → IsBlankFrom more ws
+blank_later from more ws less blank i past = blank i (omega arith)
+
+blank_part : (from size : ℕ) (ws : List ℕ) (i : ℕ) → IsBlankFrom from ws → part from size ws i ≡ 0
+blank_part from size ws i blank = blank_take (drop from ws) size i (λ j. get_or-drop from ws j 0 ∙ blank (from + j) (omega arith))
+
+-- past the first word of the root all words are 0
+blank_opening : (k : Shape) → 0 < k.pages → IsBlankFrom (log_at k) (opening_words k)
+blank_opening k some_page =
+    let count : ℕ = k.loaders + k.searchers in
+    let tail : ℕ = 16 * k.pages - 1 + k.log + regions_size k in
+    let from_root : List ℕ = 2 ∷ zeros tail in
+    let from_states : List ℕ = 1 ∷ (zeros (k.pages - 1) ++ from_root) in
+    let from_callers : List ℕ = zeros count ++ from_states in
+    let rest : ℕ = suc (k.pages - 1 + 1) in
+    let root : IsBlankFrom 1 from_root = blank_cons 0 2 (zeros tail) (λ i _. blank_at tail i) in
+    let states : IsBlankFrom rest from_states = blank_cons (k.pages - 1 + 1) 1 (zeros (k.pages - 1) ++ from_root) (blank_after (k.pages - 1) 1 from_root root) in
+    let callers : IsBlankFrom (count + rest) from_callers = blank_after count rest from_states states in
+    let all : IsBlankFrom (suc (suc (suc (count + rest)))) (opening_words k) = blank_cons (suc (suc (count + rest))) 0 (0 ∷ 1 ∷ from_callers) (blank_cons (suc (count + rest)) 0 (1 ∷ from_callers) (blank_cons (count + rest) 1 from_callers callers)) in
+    blank_later (suc (suc (suc (count + rest)))) (log_at k) (opening_words k) (omega arith) all
+
+length_zeros : (n : ℕ) → length (zeros n) ≡ n
+length_zeros n = length-replicate {A = ℕ} n 0
+
+length_opening : (k : Shape) → 0 < k.pages → length (opening_words k) ≡ total_of k
+length_opening k some_page =
+    let count : ℕ = k.loaders + k.searchers in
+    let tail : ℕ = 16 * k.pages - 1 + k.log + regions_size k in
+    let from_root : List ℕ = 2 ∷ zeros tail in
+    let from_states : List ℕ = 1 ∷ (zeros (k.pages - 1) ++ from_root) in
+    let root : length from_root ≡ suc tail = ap suc (length_zeros tail) in
+    let states : length from_states ≡ suc (k.pages - 1 + length from_root) = ap suc (length-append (zeros (k.pages - 1)) from_root ∙ ap (λ n. n + length from_root) (length_zeros (k.pages - 1))) in
+    let callers : length (zeros count ++ from_states) ≡ count + length from_states = length-append (zeros count) from_states ∙ ap (λ n. n + length from_states) (length_zeros count) in
+    let all : length (opening_words k) ≡ suc (suc (suc (length (zeros count ++ from_states)))) = refl in omega arith
+
+-- one view with one account
+only : (F : Account → Type 0) (k : Shape) (a : Account) → F a → EachAccount F (view k a ∷ [])
+only F k a f = each_cons (λ (u : View). Each F (accounts_in u)) (view k a) [] (each_cons F a [] f (each_none F)) (each_none (λ (u : View). Each F (accounts_in u)))
+
+no_withdrawal : (number target : ℕ) → Withdraws [] number target → ⊥
+no_withdrawal number target w = let within = event_within [] number (Withdraw w.caller target) w.event in let above : 1 ≤ number = w.event.0 in absurd (omega arith)
+
+legal_none : IsLegal []
+legal_none = record { earlier = λ number target w. absurd (no_withdrawal number target w); once = λ number other target w _. absurd (no_withdrawal number target w) }
+
+open_rule : (k : Shape) (p : Parts) → p.log.front ≡ 0 → p.log.lock ≡ 0 → ((i : ℕ) → p.log.slots i ≡ 0) → Rule k p [] (opener k ∷ [])
+open_rule k p front lock slots = record {
+  seats = record {
+    shapes = each_cons (λ (u : View). u.me.who ≢ Gone → u.shape ≡ k) (opener k) [] (λ _. refl) (each_none (λ (u : View). u.me.who ≢ Gone → u.shape ≡ k));
+    limits = only (λ x. WhoFits k x.who) k (account (Opener 0) 0) (omega arith);
+    one_opener = refl;
+    callers = λ c above within. absurd (omega arith);
+    none_past = λ c past. let z = seat_none k c (Opener 0) refl past in omega arith;
+  };
+  log = record {
+    front = omega arith;
+    counted = omega arith;
+    legal = legal_none;
+    callers = each_none (IsByLoader k);
+    blank = λ i _. slots i;
+    next = slots p.log.front;
+    lock = sym (taken_none p.log.lock lock);
+    hands = only (λ x. HandFits k p.log [] (hand_of x)) k (account (Opener 0) 0) (quiet_fits k p.log [] (hand_of (account (Opener 0) 0)) (omega arith) refl refl);
+  };
+  stories = record {
+    stories = only (λ x. IsTrueStory k [] x.who x.entries) k (account (Opener 0) 0) record { each = each_none (λ e. IsTrueLog k [] e.entry); own = refl };
+    none_before = λ c past. refl;
+  };
+  loads = only (λ x. Each (LoadFits k p.log) x.loads.shown) k (account (Opener 0) 0) (each_none (LoadFits k p.log));
+}
+
+pub opens : (k : Shape) → 0 < k.pages → Holds k (opening (opening_words k) [] (opener k))
+opens k some_page = record {
+  wide = length_opening k some_page;
+  rule = open_rule k (parts_of k (opening_words k)) refl refl (λ i. blank_part (log_at k) k.log (opening_words k) i (blank_opening k some_page));
+}

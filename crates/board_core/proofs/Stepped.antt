@@ -1,0 +1,58 @@
+-- What all steps of the log owe the table: the parts of the rule that they leave alone, and the whole from its parts.
+use Rattle.std.proofs.Common.{◌≡◌, ℕ, List, set, get_or, sym, ◌∙◌, subst, length-set}
+use mathlib.Core.Option.{some}
+use lib.ListN.{get_elem?}
+use lib.Seq.{set-get_or}
+use Rattle.atomic_table.specs.Table.{State, keeps, stepped}
+use Rattle.htss_defs.specs.declared.shape.Shape.{Shape}
+use Rattle.htss_defs.specs.declared.history.Event.{Event}
+use Rattle.board_core.specs.declared.account.Account.{Account}
+use Rattle.board_core.specs.declared.account.View.{View}
+use Rattle.board_core.specs.Words.{Parts, parts_of}
+use Rattle.board_core.specs.Histories.{history_of}
+use Rattle.board_core.specs.Accounts.{with_me}
+use Rattle.board_core.specs.LogRule.{LogRule}
+use Rattle.board_core.specs.StoryRule.{StoryRule}
+use Rattle.board_core.specs.LoadRule.{LoadRule}
+use Rattle.board_core.specs.Holds.{Rule, Holds}
+use Rattle.board_core.proofs.SeatFrame.{seats_same}
+
+abbrev pub St : Type 0
+St = State (Unit {0}) View
+
+-- the step leaves the words and facets of the pool, of the tree and of the counts, and whose the account is
+pub record LeavesRest (p q : Parts) (a b : Account) : Type 0 where
+  pub who : b.who ≡ a.who
+  pub pool_words : q.pool ≡ p.pool
+  pub page_words : q.pages ≡ p.pages
+  pub pool : b.pool ≡ a.pool
+  pub tree : b.tree ≡ a.tree
+  pub counts : b.counts ≡ a.counts
+
+-- and those of the regions
+pub record LeavesRegions (p q : Parts) (a b : Account) : Type 0 where
+  pub words : q.regions ≡ p.regions
+  pub room : b.room ≡ a.room
+
+-- a step of the log that changes the regions or what is known of them. Parts of the pool, the tree and the counts are framed here
+pub by_region : (k : Shape) (p q : Parts) (h g : List Event) (vs : List View) (id : ℕ) (v : View) (a : Account) → Rule k p h vs → get_elem? vs id ≡ some v → LeavesRest p q v.me a
+    → LogRule k q.log g (set vs id (with_me v a)) → StoryRule k g (set vs id (with_me v a)) → LoadRule k q.log (set vs id (with_me v a)) → Rule k q g (set vs id (with_me v a))
+by_region k p q h g vs id v a r at rest log stories loads = record { seats = seats_same k vs id v a r.seats at rest.who; log = log; stories = stories; loads = loads }
+
+-- a step of the log alone. Parts of the regions are framed here
+pub by_log : (k : Shape) (p q : Parts) (h g : List Event) (vs : List View) (id : ℕ) (v : View) (a : Account) → Rule k p h vs → get_elem? vs id ≡ some v → LeavesRest p q v.me a → LeavesRegions p q v.me a
+    → LogRule k q.log g (set vs id (with_me v a)) → StoryRule k g (set vs id (with_me v a)) → LoadRule k q.log (set vs id (with_me v a)) → Rule k q g (set vs id (with_me v a))
+by_log k p q h g vs id v a r at rest regions log stories loads = by_region k p q h g vs id v a r at rest log stories loads
+
+-- a step that leaves the words as they were
+pub still : (k : Shape) (s : St) (i id : ℕ) (cs : List _) (v : View) (a : Account) → Holds k s → Rule k (parts_of k s.words) (history_of k (parts_of k s.words)) (set s.views id (with_me v a))
+    → Holds k (stepped s i (get_or s.words i 0) id cs (with_me v a) keeps)
+still k s i id cs v a h r = subst (λ (ws : List ℕ). Holds k record { words = ws; homes = s.homes; views = set s.views id (with_me v a) }) (sym (set-get_or s.words i 0)) record { wide = h.wide; rule = r }
+
+-- a step that stores n at word i
+pub words_moved : (k : Shape) (s : St) (i n id : ℕ) (cs : List _) (v : View) (a : Account) (q : Parts) → Holds k s → parts_of k (set s.words i n) ≡ q → Rule k q (history_of k q) (set s.views id (with_me v a))
+    → Holds k (stepped s i n id cs (with_me v a) keeps)
+words_moved k s i n id cs v a q h is r = record {
+  wide = length-set s.words i n ∙ h.wide;
+  rule = subst (λ (p : Parts). Rule k p (history_of k p) (set s.views id (with_me v a))) (sym is) r;
+}

@@ -1,0 +1,23 @@
+-- The rule of the board: the words are as many as the shape says, and each part holds.
+use Rattle.std.specs.Prelude.{◌≡◌, List, length}
+use Rattle.atomic_table.specs.Table.{State}
+use Rattle.htss_defs.specs.declared.shape.Shape.{Shape}
+use Rattle.htss_defs.specs.declared.history.Event.{Event}
+use Rattle.board_core.specs.declared.account.View.{View}
+use Rattle.board_core.specs.Words.{Parts, parts_of, total_of}
+use Rattle.board_core.specs.Histories.{history_of}
+use Rattle.board_core.specs.SeatRule.{SeatRule}
+use Rattle.board_core.specs.LogRule.{LogRule}
+use Rattle.board_core.specs.StoryRule.{StoryRule}
+use Rattle.board_core.specs.LoadRule.{LoadRule}
+
+-- the parts, over the words by group, the history that they show, and all views
+pub record Rule (k : Shape) (p : Parts) (history : List Event) (vs : List View) : Type 0 where
+  pub seats : SeatRule k vs
+  pub log : LogRule k p.log history vs
+  pub stories : StoryRule k history vs
+  pub loads : LoadRule k p.log vs
+
+pub record Holds (k : Shape) (s : State (Unit {0}) View) : Type 0 where
+  pub wide : length s.words ≡ total_of k
+  pub rule : Rule k (parts_of k s.words) (history_of k (parts_of k s.words)) s.views

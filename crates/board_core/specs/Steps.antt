@@ -1,0 +1,116 @@
+-- When a caller may take each kind of step, and what the step tells it: of the seat before, the number found, and the seat after.
+use Rattle.std.specs.Prelude.{◌≡◌, ◌≢◌, ℕ, ◌<◌, ◌≤◌, ◌^◌, ◌⊎◌, List, [], Some, None}
+use Rattle.atomic_table.specs.Table.{Me, Step}
+use Rattle.htss_defs.specs.declared.shape.Shape.{Shape}
+use Rattle.htss_defs.specs.declared.history.Event.{Event}
+use Rattle.htss_defs.specs.History.{IsLegal}
+use Rattle.board_core.specs.declared.account.Account.{Account}
+use Rattle.board_core.specs.declared.account.View.{View}
+use Rattle.board_core.specs.declared.account.Who.TheVariants.{Loader}
+use Rattle.board_core.specs.declared.log.Holding.TheVariants.{Away, Fronted}
+use Rattle.board_core.specs.declared.log.Ending.{Ending}
+use Rattle.board_core.specs.declared.entry.Entry.{Entry}
+use Rattle.board_core.specs.Each.{Each}
+use Rattle.board_core.specs.Words.{Parts}
+use Rattle.board_core.specs.Histories.{history_of}
+use Rattle.board_core.specs.Accounts.{nothing, with_me}
+use Rattle.board_core.specs.Truths.{IsTrueLog, told_in}
+use Rattle.board_core.specs.LoadRule.{LoadFits}
+use Rattle.board_core.specs.LogWord.{publication_word, withdrawal_word}
+use Rattle.board_core.specs.After.{noted, after_take, after_free, after_answer, after_front, after_shows, after_ends, after_logged, after_event, after_shown}
+
+abbrev pub Mine : Type 0
+Mine = Me (Unit {0}) View
+
+-- the seat after, where the account became this one
+abbrev pub became : Mine → Account → Mine
+became m a = (with_me m.0 a, m.1)
+
+-- ---- conditions, over the account
+
+-- the lock may be tried
+abbrev pub MayTake : Account → Type 0
+MayTake a = a.log.holding ≡ Away
+
+-- the lock may be freed: the front was loaded, and nothing is stored that is not shown
+abbrev pub MayFree : Account → Type 0
+MayFree a = (a.log.holding ≡ Fronted) × (a.log.pending ≡ nothing)
+
+-- a mark may be stored: the front was loaded under the lock, the log has room, and no log word is pending
+pub record MayMark (k : Shape) (a : Account) : Type 0 where
+  pub holding : a.log.holding ≡ Fronted
+  pub room : a.log.seen < k.log
+  pub not_yet : a.log.pending.logged ≡ None
+
+-- the word of the publication, or of the withdrawal, whose mark is stored
+abbrev pub IsPublicationOf : Account → ℕ → ℕ → Type 0
+IsPublicationOf a loader word = (block : ℕ) × (a.log.pending.shows ≡ Some block) × (block < 2 ^ 40) × (word ≡ publication_word loader block)
+
+abbrev pub IsWithdrawalOf : Account → ℕ → ℕ → Type 0
+IsWithdrawalOf a loader word = (e : Ending) × (a.log.pending.ends ≡ Some e) × (e.target < 2 ^ 40) × (word ≡ withdrawal_word loader e.target)
+
+-- the log word may be stored: it is that of the publication, or of the withdrawal, whose mark is stored
+pub record MayLog (k : Shape) (a : Account) (loader word : ℕ) : Type 0 where
+  pub holding : a.log.holding ≡ Fronted
+  pub who : a.who ≡ Loader loader
+  pub small : loader < 2 ^ 8
+  pub room : a.log.seen < k.log
+  pub not_yet : a.log.pending.logged ≡ None
+  pub kind : IsPublicationOf a loader word ⊎ IsWithdrawalOf a loader word
+
+-- the event may be shown
+pub record MayShowEvent (a : Account) (word : ℕ) : Type 0 where
+  pub holding : a.log.holding ≡ Fronted
+  pub logged : a.log.pending.logged ≡ Some word
+
+-- ---- what is known of a board whatever its words are
+
+-- what the rule says of the words alone
+pub record Known (k : Shape) (p : Parts) : Type 0 where
+  pub front : p.log.front ≤ k.log
+  pub legal : IsLegal (history_of k p)
+
+-- what the words have that the account has seen
+pub record Agrees (k : Shape) (p : Parts) (a : Account) : Type 0 where
+  pub seen : a.log.seen ≤ p.log.front
+  pub shown : Each (LoadFits k p.log) a.loads.shown
+
+-- entries that tell of no event, and are true of each board that has what was loaded
+pub record AreTrue (k : Shape) (a : Account) (es : List Entry) : Type 0 where
+  pub silent : told_in (noted a.loads es) ≡ []
+  pub each : (p : Parts) → Known k p → Agrees k p a → Each (IsTrueLog k (history_of k p)) es
+
+-- ---- what the steps tell
+
+-- the lock was free and is the caller's, or nothing changed
+pub record Takes (s : Step (Unit {0})) (m : Mine) (found : ℕ) (n : Mine) : Type 0 where
+  pub won : found ≡ 0 → n ≡ became m (after_take m.0.me)
+  pub lost : found ≢ 0 → n ≡ m
+
+abbrev pub Frees : List Entry → Step (Unit {0}) → Mine → ℕ → Mine → Type 0
+Frees es s m found n = n ≡ became m (after_free m.0.me es)
+
+abbrev pub Answers : List Entry → Step (Unit {0}) → Mine → ℕ → Mine → Type 0
+Answers es s m found n = n ≡ became m (after_answer m.0.me es)
+
+pub record LoadsFront (s : Step (Unit {0})) (m : Mine) (found : ℕ) (n : Mine) : Type 0 where
+  pub after : n ≡ became m (after_front m.0.me found)
+  pub later : m.0.me.log.seen ≤ found
+  pub in_log : found ≤ m.0.shape.log
+  pub same : m.0.me.log.holding ≡ Fronted → found ≡ m.0.me.log.seen
+
+-- the mark of a block is stored: of its publication, of its withdrawal
+abbrev pub Shows : ℕ → Step (Unit {0}) → Mine → ℕ → Mine → Type 0
+Shows block s m found n = n ≡ became m (after_shows m.0.me block)
+
+abbrev pub Ends : Ending → Step (Unit {0}) → Mine → ℕ → Mine → Type 0
+Ends e s m found n = n ≡ became m (after_ends m.0.me e)
+
+abbrev pub Logs : Step (Unit {0}) → Mine → ℕ → Mine → Type 0
+Logs s m found n = n ≡ became m (after_logged m.0.me s.first)
+
+abbrev pub ShowsEvent : Event → Step (Unit {0}) → Mine → ℕ → Mine → Type 0
+ShowsEvent e s m found n = n ≡ became m (after_event m.0.me e)
+
+abbrev pub LoadsShown : Step (Unit {0}) → Mine → ℕ → Mine → Type 0
+LoadsShown s m found n = n ≡ became m (after_shown m.0.me s.word found)

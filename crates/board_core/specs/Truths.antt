@@ -1,0 +1,67 @@
+-- What makes an entry true of a history, and which events an account tells of.
+use Rattle.std.specs.Prelude.{◌≡◌, ℕ, ◌≤◌, List, [], ◌∷◌, ◌++◌, length, take}
+use Rattle.htss_defs.specs.declared.shape.Shape.{Shape}
+use Rattle.htss_defs.specs.declared.history.Event.{Event}
+use Rattle.htss_defs.specs.declared.history.Event.TheVariants.{Publish, Withdraw}
+use Rattle.htss_defs.specs.History.{HasEvent, Withdraws}
+use Rattle.htss_defs.specs.Reply.{Reply as Answer, IsReply, found, over_budget}
+use Rattle.board_core.specs.declared.entry.Entry.{Entry}
+use Rattle.board_core.specs.declared.entry.Entry.TheVariants.{Published, Withdrawn, Answered, Unknown, Gone as Ended, LogFull, DataFull, NoPage, ChainFull, Swept}
+use Rattle.board_core.specs.declared.entry.Reply.{Reply}
+use Rattle.board_core.specs.declared.entry.Reply.TheVariants.{Hits, OverBudget}
+use Rattle.board_core.specs.declared.entry.Noted.{Noted}
+use Rattle.board_core.specs.declared.account.Who.{Who}
+use Rattle.board_core.specs.declared.account.Who.TheVariants.{Opener, Loader, Searcher, Note, Gone}
+use Rattle.board_core.specs.Each.{Each}
+use Rattle.board_core.specs.Histories.{IsPublished, events_by}
+
+abbrev pub reply_of : Reply → Answer
+reply_of (Hits hits) = found hits
+reply_of OverBudget = over_budget
+
+-- the half of an entry's truth that reads the history. What reads regions, states or pages stands with their groups
+abbrev pub IsTrueLog : Shape → List Event → Entry → Type 0
+IsTrueLog k h (Published number event) = HasEvent h number event
+IsTrueLog k h (Withdrawn number event) = HasEvent h number event
+IsTrueLog k h (Answered query budget front reply) = (front ≤ length h) × IsReply query budget (take front h) (reply_of reply)
+IsTrueLog k h (Unknown number front) = (front ≤ length h) × ¬ (IsPublished (take front h) number)
+IsTrueLog k h (Ended number at) = Withdraws h at number
+IsTrueLog k h (LogFull front) = (front ≤ length h) × (front ≡ k.log)
+IsTrueLog k h (DataFull left need) = Unit {0}
+IsTrueLog k h NoPage = Unit {0}
+IsTrueLog k h (ChainFull pages) = Unit {0}
+IsTrueLog k h (Swept need front rows) = Unit {0}
+
+-- the entry of an event, and the events that an entry tells of
+abbrev pub entry_of : ℕ → Event → Entry
+entry_of number (Publish caller name mol) = Published number (Publish caller name mol)
+entry_of number (Withdraw caller target) = Withdrawn number (Withdraw caller target)
+
+abbrev pub told_by : Entry → List Event
+told_by (Published number event) = event ∷ []
+told_by (Withdrawn number event) = event ∷ []
+told_by (Answered query budget front reply) = []
+told_by (Unknown number front) = []
+told_by (Ended number at) = []
+told_by (LogFull front) = []
+told_by (DataFull left need) = []
+told_by NoPage = []
+told_by (ChainFull pages) = []
+told_by (Swept need front rows) = []
+
+abbrev pub told_in : List Noted → List Event
+told_in [] = []
+told_in (n ∷ ns) = told_by n.entry ++ told_in ns
+
+-- the events of a history that are a caller's own
+abbrev pub own_events : List Event → Who → List Event
+own_events h (Loader n) = events_by n h
+own_events h (Searcher n) = []
+own_events h (Opener n) = []
+own_events h Note = []
+own_events h Gone = []
+
+-- an account's entries are true, and tell of exactly its events, in order
+pub record IsTrueStory (k : Shape) (h : List Event) (who : Who) (entries : List Noted) : Type 0 where
+  pub each : Each (λ n. IsTrueLog k h n.entry) entries
+  pub own : own_events h who ≡ told_in entries

@@ -1,7 +1,0 @@
-use Rattle.std.proofs.Common.{ℕ, ◌≤◌, ◌<◌}
-use Rattle.htss_defs.specs.Codes.{codes_at}
-use Rattle.htss_defs.specs.Needs.{Covers}
-use Rattle.reg_model.proofs.search.has_cover.Given as goal
-
-abbrev pub invariant-loop-atom : goal.invariant-loop-atom
-invariant-loop-atom l = (place : ℕ) → 1 ≤ place → place < l.atom → Covers l.need (codes_at l.mol place) → ⊥
