@@ -9,6 +9,7 @@ use Rattle.board_core.specs.declared.entry.Entry.{Entry}
 use Rattle.board_core.specs.Words.{Parts, parts_of}
 use Rattle.board_core.specs.Histories.{history_of}
 use Rattle.board_core.specs.Accounts.{with_me}
+use Rattle.board_core.proofs.FullFrame.{full_more}
 use Rattle.board_core.specs.Holds.{Rule, Holds}
 use Rattle.board_core.specs.After.{after_answer}
 use Rattle.board_core.specs.Steps.{Mine, AreTrue, Answers}
@@ -21,9 +22,10 @@ pub answer : (k : Shape) (p : Parts) (vs : List View) (id : ℕ) (v : View) (es 
     → Rule k p (history_of k p) (set vs id (with_me v (after_answer v.me es)))
 answer k p vs id v es r at true_all = by_log k p p (history_of k p) (history_of k p) vs id v (after_answer v.me es) r at
     record { who = refl; pool_words = refl; page_words = refl; pool = refl; tree = refl; counts = refl }
-    record { words = refl; room = refl }
+    record { words = refl; front = refl; slots = refl; store = refl }
     (log_same k p.log (history_of k p) vs id v (after_answer v.me es) r.log at refl)
     (answered_stories k p vs id v (after_answer v.me es) es r at true_all refl refl)
+    (full_more k vs id v (after_answer v.me es) es r.full at true_all.rooms refl refl)
     (loads_same k p.log p.log vs id v (after_answer v.me es) r.loads at (not_later p.log p.log refl refl) refl)
 
 pub answer_allowed : (k : Shape) (slots id : ℕ) (m : Mine) (es : List Entry) → AreTrue k m.0.me es → Allows (Holds k) slots id m 1 (λ n. n) (Answers es (step slots 1 0 0 none) m)

@@ -1,15 +1,11 @@
 -- What a block shows is read from its first word and from the words past the marks.
-use Rattle.std.proofs.Common.{◌≡◌, ◌≢◌, ℕ, zero, suc, ◌+◌, ◌*◌, ◌-◌, ◌/◌, ◌%◌, ◌^◌, ◌<◌, ◌≤◌, ◌==◌, Bool, cond, List, sym, refl, ap, ◌∙◌, subst, arith, eq-eqb}
+use Rattle.std.proofs.Common.{◌≡◌, ℕ, ◌+◌, ◌*◌, ◌/◌, ◌%◌, ◌^◌, ◌<◌, ◌≤◌, ◌==◌, Bool, cond, sym, ap, ◌∙◌, arith, eq-eqb}
 use mathlib.Core.Logic.{dite}
 use native.Mathlib.Decide.{ℕ_discrete}
-use Rattle.htss_defs.specs.declared.shape.Shape.{Shape}
 use Rattle.htss_defs.specs.declared.history.Event.{Event}
 use Rattle.htss_defs.specs.declared.history.Event.TheVariants.{Publish, Withdraw}
-use Rattle.htss_defs.specs.declared.mol.Atom.{Atom}
-use Rattle.htss_defs.specs.declared.mol.Bond.{Bond}
-use Rattle.htss_defs.specs.Molecule.{Molecule}
 use Rattle.board_core.specs.LogWord.{kind_in, loader_in, target_in}
-use Rattle.board_core.specs.Blocks.{first_of, atoms_in, bonds_in, bytes_in, atom_words_at, code_words_at, bond_words_at, block_size, byte_of, atom_of, bond_of, name_in, molecule_in}
+use Rattle.board_core.specs.Blocks.{first_of, atoms_in, bonds_in, bytes_in, atom_words_at, bond_words_at, block_size, byte_of, atom_of, bond_of, name_in, molecule_in}
 use Rattle.board_core.specs.Histories.{shown_by}
 use Rattle.board_core.proofs.Shown.{same_first}
 

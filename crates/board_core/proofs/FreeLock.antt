@@ -11,6 +11,7 @@ use Rattle.board_core.specs.Words.{LogWords, Parts, parts_of}
 use Rattle.board_core.specs.Histories.{history_of}
 use Rattle.board_core.specs.Accounts.{with_me}
 use Rattle.board_core.specs.LogRule.{hand_of, is_held, word_or_0, HandFits, LogRule}
+use Rattle.board_core.proofs.FullFrame.{full_more}
 use Rattle.board_core.specs.Holds.{Rule, Holds}
 use Rattle.board_core.specs.After.{after_free}
 use Rattle.board_core.specs.Steps.{Mine, MayFree, AreTrue, Frees}
@@ -47,9 +48,10 @@ pub free : (k : Shape) (p : Parts) (vs : List View) (id : ℕ) (v : View) (es : 
     → Rule k (record p { log = record p.log { lock = 0 } }) (history_of k p) (set vs id (with_me v (after_free v.me es)))
 free k p vs id v es r at may true_all = by_log k p (record p { log = record p.log { lock = 0 } }) (history_of k p) (history_of k p) vs id v (after_free v.me es) r at
     record { who = refl; pool_words = refl; page_words = refl; pool = refl; tree = refl; counts = refl }
-    record { words = refl; room = refl }
+    record { words = refl; front = refl; slots = refl; store = refl }
     (free_log k p.log (history_of k p) vs id v es r.log at may)
     (answered_stories k p vs id v (after_free v.me es) es r at true_all refl refl)
+    (full_more k vs id v (after_free v.me es) es r.full at true_all.rooms refl refl)
     (loads_same k p.log (record p.log { lock = 0 }) vs id v (after_free v.me es) r.loads at (not_later p.log (record p.log { lock = 0 }) refl refl) refl)
 
 pub free_allowed : (k : Shape) (slots id : ℕ) (m : Mine) (es : List Entry) → MayFree m.0.me → AreTrue k m.0.me es → Allows (Holds k) slots id m 1 (λ _. 0) (λ _. Frees es (step slots 1 0 0 none) m 0)

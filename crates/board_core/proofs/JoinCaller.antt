@@ -1,5 +1,5 @@
 -- A seat is joined: a caller is gathered, and its account is kept as it was.
-use Rattle.std.proofs.Common.{◌≡◌, ◌≢◌, ℕ, List, set, sym, refl, ◌∙◌, arith}
+use Rattle.std.proofs.Common.{[], ◌≡◌, ◌≢◌, ℕ, List, set, sym, refl, ◌∙◌, arith}
 use mathlib.Core.Option.{some}
 use lib.ListN.{get_elem?}
 use Rattle.atomic_table.specs.Table.{Joins}
@@ -16,6 +16,11 @@ use Rattle.board_core.specs.SeatRule.{WhoFits, made}
 use Rattle.board_core.specs.LogRule.{hand_of, is_held, word_or_0, HandFits}
 use Rattle.board_core.specs.Truths.{IsTrueLog, IsTrueStory}
 use Rattle.board_core.specs.LoadRule.{LoadFits}
+use Rattle.board_core.specs.RoomRule.{store_of, RoomFits, ShowsSealed}
+use Rattle.board_core.proofs.RoomFrame.{none_fits}
+use Rattle.board_core.proofs.Some.{some_gathered}
+use Rattle.board_core.specs.Truths.{IsTrueRoom}
+use Rattle.std.proofs.Common.{◌-◌, length}
 use Rattle.board_core.specs.Holds.{Rule, Holds}
 use Rattle.board_core.proofs.Lists.{each_none, each_kept}
 use Rattle.board_core.proofs.Everyone.{each_gathered, total_gathered}
@@ -50,6 +55,11 @@ gather k p h vs id other v w r at apart there =
       stories = record {
         stories = each_gathered (λ x. IsTrueStory k h x.who x.entries) vs id other v w at there record { each = each_none (λ e. IsTrueLog k h e.entry); own = refl } r.stories.stories;
         none_before = λ c past. r.stories.none_before c (omega arith);
+      };
+      full = each_gathered (λ x. Each (λ e. IsTrueRoom (k.room - length x.room.used) e.entry) x.entries) vs id other v w at there (each_none (λ e. IsTrueRoom (k.room - length {A = ℕ} []) e.entry)) r.full;
+      rooms = record {
+        rooms = each_gathered (λ x. RoomFits k p.regions (store_of x)) vs id other v w at there (none_fits k p.regions Gone) r.rooms.rooms;
+        named = λ i behind kind. some_gathered (ShowsSealed (p.log.slots i)) vs id other v w at apart there (r.rooms.named i behind kind);
       };
       loads = each_gathered (λ x. Each (LoadFits k p.log) x.loads.shown) vs id other v w at there (each_none (LoadFits k p.log)) r.loads;
     }

@@ -1,13 +1,13 @@
 -- A seat is joined: a note is heard.
-use Rattle.std.proofs.Common.{◌≡◌, ◌≢◌, ℕ, ◌+◌, ◌≤◌, List, max, set, sym, refl, ap, ◌∙◌, arith}
-use mathlib.Core.Option.{some}
+use Rattle.std.proofs.Common.{subst, suc, zero, [], ◌∷◌, ◌≡◌, ◌≢◌, ℕ, ◌+◌, ◌≤◌, List, max, set, sym, refl, ap, ◌∙◌, arith}
+use mathlib.Core.Option.{some, some-injective, some-ne-none}
 use lib.ListN.{get_elem?}
 use Rattle.atomic_table.specs.Table.{Joins}
 use Rattle.htss_defs.specs.declared.shape.Shape.{Shape}
 use Rattle.htss_defs.specs.declared.history.Event.{Event}
 use Rattle.board_core.specs.declared.account.Account.{Account}
 use Rattle.board_core.specs.declared.account.View.{View}
-use Rattle.board_core.specs.declared.account.Who.TheVariants.{Note, Gone}
+use Rattle.board_core.specs.declared.account.Who.TheVariants.{Loader, Note, Gone}
 use Rattle.board_core.specs.declared.log.Holding.{Holding}
 use Rattle.board_core.specs.declared.log.Holding.TheVariants.{Away, Taken, Fronted}
 use Rattle.board_core.specs.Each.{Each, sum_of}
@@ -18,6 +18,12 @@ use Rattle.board_core.specs.SeatRule.{WhoFits, made}
 use Rattle.board_core.specs.LogRule.{Hand, hand_of, is_held, word_or_0, Holds as HoldsLock, HandFits, LogRule}
 use Rattle.board_core.specs.Truths.{IsTrueLog, IsTrueStory}
 use Rattle.board_core.specs.LoadRule.{LoadFits}
+use Rattle.board_core.specs.RoomRule.{store_of, RoomFits, ShowsSealed}
+use Rattle.board_core.proofs.RoomFrame.{none_fits}
+use Rattle.board_core.proofs.Some.{some_left}
+use Rattle.board_core.proofs.FullFrame.{full_same}
+use Rattle.board_core.specs.Truths.{IsTrueRoom}
+use Rattle.std.proofs.Common.{◌-◌, length}
 use Rattle.board_core.specs.Holds.{Rule, Holds}
 use Rattle.board_core.specs.After.{after_hear}
 use Rattle.board_core.proofs.Lists.{each_none, each_kept}
@@ -36,6 +42,16 @@ left_same : (f : Account → ℕ) (vs : List View) (other front : ℕ) (w : View
 left_same f vs other front w there is blank none_gone =
     let sum : total f (set vs other gone) + sum_of f (accounts_in w) ≡ total f vs = total_left f vs other w there none_gone in
     let of_note : sum_of f (accounts_in w) ≡ f (account Note front) + 0 = ap (λ (x : View). sum_of f (accounts_in x)) is in omega arith
+
+note_clash : {n : ℕ} → Note ≡ Loader n → ⊥
+note_clash e = cc
+
+no_note : (word front : ℕ) (w : View) → w ≡ view w.shape (account Note front) → (i : ℕ) × (a : Account) × (get_elem? (accounts_in w) i ≡ some a) × ShowsSealed word a → ⊥
+no_note word front w is t = no_one word front (subst (λ (x : View). (i : ℕ) × (a : Account) × (get_elem? (accounts_in x) i ≡ some a) × ShowsSealed word a) is t)
+  where
+    no_one : (word front : ℕ) → (i : ℕ) × (a : Account) × (get_elem? (account Note front ∷ []) i ≡ some a) × ShowsSealed word a → ⊥
+    no_one word front (zero, a, there, shown) = note_clash (ap (λ (x : Account). x.who) (some-injective (account Note front) a there) ∙ shown.0)
+    no_one word front (suc i, a, there, shown) = some-ne-none a (sym there)
 
 pub note_goes : (k : Shape) (p : Parts) (h : List Event) (vs : List View) (other front : ℕ) (w : View) → Rule k p h vs → get_elem? vs other ≡ some w → w ≡ view w.shape (account Note front) → Rule k p h (set vs other gone)
 note_goes k p h vs other front w r there is =
@@ -63,6 +79,11 @@ note_goes k p h vs other front w r there is =
         none_before = λ c past. r.stories.none_before c (omega arith);
       };
       loads = each_left (λ x. Each (LoadFits k p.log) x.loads.shown) vs other (each_none (LoadFits k p.log)) r.loads;
+      full = each_left (λ x. Each (λ e. IsTrueRoom (k.room - length x.room.used) e.entry) x.entries) vs other (each_none (λ e. IsTrueRoom (k.room - length {A = ℕ} []) e.entry)) r.full;
+      rooms = record {
+        rooms = each_left (λ x. RoomFits k p.regions (store_of x)) vs other (none_fits k p.regions Gone) r.rooms.rooms;
+        named = λ i behind kind. some_left (ShowsSealed (p.log.slots i)) vs other w there (λ t. no_note (p.log.slots i) front w is t) (r.rooms.named i behind kind);
+      };
     }
 
 -- ---- the hearer's front
@@ -89,9 +110,10 @@ hear_log k w h vs id front v r at seen = let f = hand_at k w h vs id v r at in l
 pub hear : (k : Shape) (p : Parts) (h : List Event) (vs : List View) (id front : ℕ) (v : View) → Rule k p h vs → get_elem? vs id ≡ some v → front ≤ p.log.front → Rule k p h (set vs id (with_me v (after_hear v.me front)))
 hear k p h vs id front v r at seen = by_log k p p h h vs id v (after_hear v.me front) r at
     record { who = refl; pool_words = refl; page_words = refl; pool = refl; tree = refl; counts = refl }
-    record { words = refl; room = refl }
+    record { words = refl; front = refl; slots = refl; store = refl }
     (hear_log k p.log h vs id front v r.log at seen)
     (stories_same k h vs id v (after_hear v.me front) r.stories at refl refl)
+    (full_same k vs id v (after_hear v.me front) r.full at refl refl)
     (loads_same k p.log p.log vs id v (after_hear v.me front) r.loads at (not_later p.log p.log refl refl) refl)
 
 pub note_joins : (k : Shape) (id other front : ℕ) (v w : View) → w ≡ view w.shape (account Note front) → Joins (Holds k) id v other w (with_me v (after_hear v.me w.me.log.seen)) gone

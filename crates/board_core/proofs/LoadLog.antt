@@ -12,6 +12,7 @@ use Rattle.board_core.specs.Words.{Parts, parts_of, log_at}
 use Rattle.board_core.specs.Histories.{history_of}
 use Rattle.board_core.specs.Accounts.{with_me}
 use Rattle.board_core.specs.LoadRule.{LoadFits}
+use Rattle.board_core.proofs.FullFrame.{full_same}
 use Rattle.board_core.specs.Holds.{Rule, Holds}
 use Rattle.board_core.specs.After.{after_shown}
 use Rattle.board_core.specs.Steps.{Mine, LoadsShown}
@@ -30,9 +31,10 @@ load_log k p h vs id i v r at behind =
     let a : Account = after_shown v.me (log_at k + i) (p.log.slots i) in
     let seen = (hand_at k p.log h vs id v r.log at).seen in by_log k p p h h vs id v a r at
     record { who = refl; pool_words = refl; page_words = refl; pool = refl; tree = refl; counts = refl }
-    record { words = refl; room = refl }
+    record { words = refl; front = refl; slots = refl; store = refl }
     (log_same k p.log h vs id v a r.log at refl)
     (stories_same k h vs id v a r.stories at refl refl)
+    (full_same k vs id v a r.full at refl refl)
     (changed (λ x. Each (LoadFits k p.log) x.loads.shown) vs id v a at
     (each_snoc (LoadFits k p.log) v.me.loads.shown record { place = log_at k + i; word = p.log.slots i; front = v.me.log.seen }
     record { seen = seen; log = λ j inside place. let e = same_place (log_at k) i j (log_at k + i) refl place in (omega arith, ap p.log.slots (sym e)) }

@@ -11,6 +11,10 @@ use Rattle.board_core.specs.SeatRule.{WhoFits}
 use Rattle.board_core.specs.LogRule.{hand_of, HandFits, IsByLoader}
 use Rattle.board_core.specs.Truths.{IsTrueLog, IsTrueStory}
 use Rattle.board_core.specs.LoadRule.{LoadFits}
+use Rattle.board_core.specs.RoomRule.{store_of, RoomFits}
+use Rattle.board_core.proofs.RoomFrame.{none_fits}
+use Rattle.board_core.specs.Truths.{IsTrueRoom}
+use Rattle.std.proofs.Common.{◌-◌, length}
 use Rattle.board_core.specs.Holds.{Rule, Holds}
 use Rattle.board_core.proofs.Lists.{each_none, each_cons}
 use Rattle.board_core.proofs.LogFrame.{quiet_fits, taken_none}
@@ -116,6 +120,11 @@ open_rule k p front lock slots = record {
   stories = record {
     stories = only (λ x. IsTrueStory k [] x.who x.entries) k (account (Opener 0) 0) record { each = each_none (λ e. IsTrueLog k [] e.entry); own = refl };
     none_before = λ c past. refl;
+  };
+  full = only (λ x. Each (λ e. IsTrueRoom (k.room - length x.room.used) e.entry) x.entries) k (account (Opener 0) 0) (each_none (λ e. IsTrueRoom (k.room - length {A = ℕ} []) e.entry));
+  rooms = record {
+    rooms = only (λ x. RoomFits k p.regions (store_of x)) k (account (Opener 0) 0) (none_fits k p.regions (Opener 0));
+    named = λ i behind kind. absurd (omega arith);
   };
   loads = only (λ x. Each (LoadFits k p.log) x.loads.shown) k (account (Opener 0) 0) (each_none (LoadFits k p.log));
 }

@@ -2,9 +2,13 @@
 use Rattle.std.proofs.Common.{◌≡◌, ◌≢◌, ℕ, ◌+◌, ◌<◌, ◌≤◌, cond, List, [], ◌∷◌, ◌++◌, length, set, sym, refl, ap, ◌∙◌, subst, arith, length-append, lt_of_not-le, eq-eqb}
 use mathlib.Core.Option.{some, none}
 use mathlib.Core.Logic.{dite}
-use native.Mathlib.Decide.{dec_le}
+use native.Mathlib.Decide.{ℕ_discrete, dec_le}
 use lib.ListN.{get_elem?}
 use Rattle.atomic_table.specs.Table.{step, keeps, Allows}
+use Rattle.std.specs.Prelude.{Option, Some, None}
+use Rattle.atomic_table.proofs.Lists.{set_here}
+use Rattle.board_core.proofs.Lists.{inside}
+use Rattle.board_core.specs.declared.room.RoomAccount.{RoomAccount}
 use Rattle.htss_defs.specs.declared.shape.Shape.{Shape}
 use Rattle.htss_defs.specs.declared.history.Event.{Event}
 use Rattle.board_core.specs.declared.account.Account.{Account}
@@ -20,16 +24,23 @@ use Rattle.board_core.specs.SeatRule.{SeatRule, WhoFits, made}
 use Rattle.board_core.specs.LogRule.{hand_of, is_held, word_or_0, Holds as HoldsLock, HandFits, IsByLoader, LogRule}
 use Rattle.board_core.specs.Truths.{IsTrueLog, IsTrueStory, told_in, own_events, entry_of}
 use Rattle.board_core.specs.StoryRule.{StoryRule}
+use Rattle.board_core.specs.Steps.{event_by}
+use Rattle.board_core.specs.RoomRule.{Store, store_of, IsSealed, RoomFits, SomeAccount, ShowsSealed, RoomRule}
+use Rattle.board_core.proofs.RoomFrame.{event_told}
+use Rattle.board_core.proofs.Some.{some_changed}
+use Rattle.std.proofs.Common.{◌-◌, length}
+use Rattle.board_core.proofs.FullFrame.{full_more, event_room}
 use Rattle.board_core.specs.Holds.{Rule, Holds}
-use Rattle.board_core.specs.After.{noted, after_event}
+use Rattle.board_core.specs.After.{with_published, noted, after_event}
 use Rattle.board_core.specs.Steps.{Mine, MayShowEvent, ShowsEvent}
 use Rattle.board_core.proofs.Lists.{each_none, each_cons, each_snoc, each_append}
-use Rattle.board_core.proofs.Everyone.{mine, at_most, moved, total_changed, total_same}
-use Rattle.board_core.proofs.LogFrame.{hand_at, quiet_fits, free_fits, owner, others_free}
+use Rattle.board_core.specs.LogWord.{kind_in, loader_in, target_in}
+use Rattle.board_core.proofs.Everyone.{mine, changed, at_most, moved, total_changed, total_same}
+use Rattle.board_core.proofs.LogFrame.{none_some, hand_at, quiet_fits, free_fits, owner, others_free}
 use Rattle.board_core.proofs.StoryFrame.{before_same, told_in-append, true_more, story_later}
 use Rattle.board_core.proofs.LoadFrame.{loads_same}
-use Rattle.board_core.proofs.Stepped.{St, by_region, words_moved}
-use Rattle.board_core.specs.Accounts.{is_seat}
+use Rattle.board_core.proofs.Stepped.{by_region, words_moved}
+use Rattle.board_core.specs.Accounts.{nothing, is_seat}
 use Rattle.htss_defs.specs.declared.history.Event.TheVariants.{Publish, Withdraw}
 use Rattle.htss_defs.specs.History.{HasEvent}
 use Rattle.board_core.proofs.Changed.{set_front}
@@ -121,6 +132,35 @@ shown_stories k h vs id v e seats r at who above count = record {
       (λ c past. let born = loader_made k vs id v (caller_of e) seats at who in by_other h e c (λ same. omega arith) ∙ r.none_before c past);
 }
 
+-- ---- rooms
+
+published_fits : (k : Shape) (regions : ℕ → ℕ) (o : Option ℕ) (a : Store) → RoomFits k regions a → RoomFits k regions record { who = a.who; room = with_published o a.room; pending = nothing }
+published_fits k regions (Some block) a f = record { within = f.within; stands = f.stands; sealed = f.sealed; in_order = f.in_order; shows = λ b e. absurd (none_some b e); logged = λ word e. absurd (none_some word e) }
+published_fits k regions None a f = record { within = f.within; stands = f.stands; sealed = f.sealed; in_order = f.in_order; shows = λ b e. absurd (none_some b e); logged = λ word e. absurd (none_some word e) }
+
+published_used : (o : Option ℕ) (r : RoomAccount) → length (with_published o r).used ≡ length r.used
+published_used (Some block) r = refl
+published_used None r = refl
+
+published_sealed : (o : Option ℕ) (r : RoomAccount) (place : ℕ) → IsSealed r.sealed place → IsSealed (with_published o r).sealed place
+published_sealed (Some block) r place t = t
+published_sealed None r place t = t
+
+pub shown_rooms : (k : Shape) (regions : ℕ → ℕ) (front : ℕ) (slots : ℕ → ℕ) (vs : List View) (id word : ℕ) (v : View) (e : Event) → RoomRule k regions front slots vs → get_elem? vs id ≡ some v → v.me.log.pending.logged ≡ Some word → slots front ≡ word → v.me.who ≡ Loader (loader_in word)
+    → RoomRule k regions (front + 1) slots (set vs id (with_me v (after_event v.me e)))
+shown_rooms k regions front slots vs id word v e r at logged there who =
+    let a : Account = after_event v.me e in
+    let f = mine (λ x. RoomFits k regions (store_of x)) vs id v at r.rooms in
+    let sealed_too : (place : ℕ) → IsSealed v.me.room.sealed place → IsSealed a.room.sealed place = published_sealed v.me.log.pending.shows v.me.room in record {
+      rooms = changed (λ x. RoomFits k regions (store_of x)) vs id v a at (published_fits k regions v.me.log.pending.shows (store_of v.me) f) r.rooms;
+      named = λ i behind kind. dite (ℕ_discrete i front)
+          (λ same. let is : word ≡ slots i = sym there ∙ ap slots (sym same) in
+          subst (λ (w : ℕ). ¬ (kind_in w ≡ 2) → SomeAccount (ShowsSealed w) (set vs id (with_me v a))) is
+          (λ not_two. (id, with_me v a, set_here vs id (with_me v a) (inside vs id v at), 0, a, refl, (who, sealed_too (target_in word) (f.logged word logged not_two))))
+          kind)
+          (λ other. some_changed (ShowsSealed (slots i)) vs id v a at (λ t. (t.0, sealed_too (target_in (slots i)) t.1)) (r.named i (omega arith) kind));
+    }
+
 -- ---- the whole
 
 pub show_event : (k : Shape) (p : Parts) (vs : List View) (id word : ℕ) (v : View) (e : Event) → Rule k p (history_of k p) vs → get_elem? vs id ≡ some v → MayShowEvent v.me word → event_of k p.regions word ≡ e
@@ -139,20 +179,19 @@ show_event k p vs id word v e r at may is =
     record { who = refl; pool_words = refl; page_words = refl; pool = refl; tree = refl; counts = refl }
     (shown_log k p.log h vs id word v e r.log at may by follows)
     (shown_stories k h vs id v e r.seats r.stories at who by.0 (own.1 ∙ sym r.log.counted))
+    (full_more k vs id v (after_event v.me e) (entry_of (v.me.log.seen + 1) e ∷ []) r.full at (event_room (k.room - length v.me.room.used) (v.me.log.seen + 1) e) (published_used v.me.log.pending.shows v.me.room) refl)
     (loads_same k p.log u vs id v (after_event v.me e) r.loads at record { front = omega arith; slots = λ i _. refl } refl)
+    (shown_rooms k p.regions p.log.front p.log.slots vs id word v e r.rooms at may.logged next.there (own.0 ∙ ap (λ z. Loader z) (sym next.own)))
 
--- the caller knows from its own account which event its log word shows
-pub record KnowsEvent (k : Shape) (id : ℕ) (m : Mine) (word : ℕ) (e : Event) : Type 0 where
-  pub shows : (s : St) → Holds k s → get_elem? s.views id ≡ some m.0 → event_of k (parts_of k s.words).regions word ≡ e
-
-pub show_allowed : (k : Shape) (slots id n word : ℕ) (m : Mine) (e : Event) → n ≡ m.0.me.log.seen + 1 → MayShowEvent m.0.me word → KnowsEvent k id m word e → Allows (Holds k) slots id m 0 (λ _. n) (λ _. ShowsEvent e (step slots 0 n 0 none) m n)
+pub show_allowed : (k : Shape) (slots id n word : ℕ) (m : Mine) (e : Event) → n ≡ m.0.me.log.seen + 1 → MayShowEvent m.0.me word → event_by k m.0.me word ≡ e → Allows (Holds k) slots id m 0 (λ _. n) (λ _. ShowsEvent e (step slots 0 n 0 none) m n)
 show_allowed k slots id n word m e is may knows s h _ at _ =
     let p : Parts = parts_of k s.words in
     let f = hand_at k p.log (history_of k p) s.views id m.0 h.rule.log at in
     let here : m.0.me.log.seen ≡ p.log.front = (owner p.log (hand_of m.0.me) m.0.me.log.holding may.holding f.holds).1 in
     let next = f.logged word may.logged in
+    let stored_fits = mine (λ x. RoomFits k p.regions (store_of x)) s.views id m.0 at h.rule.rooms.rooms in
     let q : Parts = record p { log = record p.log { front = p.log.front + 1 } } in
-    let shows : event_of k p.regions word ≡ e = knows.shows s h at in
+    let shows : event_of k p.regions word ≡ e = event_told k p.regions (store_of m.0.me) word stored_fits (stored_fits.logged word may.logged) ∙ knows in
     let grown : history_of k q ≡ history_of k p ++ e ∷ [] = history_grown k p ∙ ap (λ (x : Event). history_of k p ++ x ∷ []) (ap (event_of k p.regions) next.there ∙ shows) in (
       with_me m.0 (after_event m.0.me e),
       keeps,

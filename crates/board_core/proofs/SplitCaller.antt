@@ -22,6 +22,11 @@ use Rattle.board_core.specs.LogRule.{Hand, hand_of, is_held, word_or_0, Holds as
 use Rattle.board_core.specs.Truths.{IsTrueLog, IsTrueStory, own_events}
 use Rattle.board_core.specs.StoryRule.{StoryRule}
 use Rattle.board_core.specs.LoadRule.{LoadFits}
+use Rattle.board_core.specs.RoomRule.{Store, store_of, RoomFits, ShowsSealed, RoomRule}
+use Rattle.board_core.proofs.RoomFrame.{none_fits}
+use Rattle.board_core.proofs.Some.{some_changed, some_more}
+use Rattle.board_core.specs.Truths.{IsTrueRoom}
+use Rattle.std.proofs.Common.{◌-◌, length}
 use Rattle.board_core.specs.Holds.{Rule, Holds}
 use Rattle.board_core.proofs.Lists.{each_none, each_kept, each_snoc}
 use Rattle.board_core.proofs.Everyone.{mine, changed, total_changed, each_more, total_more}
@@ -111,6 +116,20 @@ caller_stories k h vs id m v seats r at is =
           );
     }
 
+-- an account that has no region
+other_store : (k : Shape) (regions : ℕ → ℕ) (m n : ℕ) (a : Store) → a.who ≡ Opener m → RoomFits k regions a → RoomFits k regions record { who = Opener n; room = a.room; pending = a.pending }
+other_store k regions m n a is f =
+    let g : RoomFits k regions record { who = Opener m; room = a.room; pending = a.pending } = subst (λ (w : Who). RoomFits k regions record { who = w; room = a.room; pending = a.pending }) is f in
+    record { within = g.within; stands = g.stands; sealed = g.sealed; in_order = g.in_order; shows = g.shows; logged = g.logged }
+
+caller_rooms : (k : Shape) (regions : ℕ → ℕ) (front : ℕ) (slots : ℕ → ℕ) (vs : List View) (id m : ℕ) (v : View) → RoomRule k regions front slots vs → get_elem? vs id ≡ some v → v.me.who ≡ Opener m → RoomRule k regions front slots (set vs id (left_of v) ++ right_of k m ∷ [])
+caller_rooms k regions front slots vs id m v r at is = record {
+  rooms = each_more (λ x. RoomFits k regions (store_of x)) (set vs id (left_of v)) (account (caller_after k m) 0) (right_of k m) refl refl (none_fits k regions (caller_after k m))
+      (changed (λ x. RoomFits k regions (store_of x)) vs id v (after_made v.me) at (other_store k regions m (made_by v.me.who + 1) (store_of v.me) is (mine (λ x. RoomFits k regions (store_of x)) vs id v at r.rooms)) r.rooms);
+  named = λ i behind kind. some_more (ShowsSealed (slots i)) (set vs id (left_of v)) (right_of k m)
+      (some_changed (ShowsSealed (slots i)) vs id v (after_made v.me) at (λ t. absurd (opener_clash (sym is ∙ t.0))) (r.named i behind kind));
+}
+
 pub caller : (k : Shape) (p : Parts) (h : List Event) (vs : List View) (id m : ℕ) (v : View) → Rule k p h vs → get_elem? vs id ≡ some v → v.me.who ≡ Opener m → v.shape ≡ k → m < k.loaders + k.searchers → Rule k p h (set vs id (left_of v) ++ right_of k m ∷ [])
 caller k p h vs id m v r at is shape room = record {
   seats = caller_seats k vs id m v r.seats at is shape room;
@@ -118,6 +137,9 @@ caller k p h vs id m v r at is shape room = record {
   stories = caller_stories k h vs id m v r.seats r.stories at is;
   loads = each_more (λ x. Each (LoadFits k p.log) x.loads.shown) (set vs id (left_of v)) (account (caller_after k m) 0) (right_of k m) refl refl (each_none (LoadFits k p.log))
       (changed (λ x. Each (LoadFits k p.log) x.loads.shown) vs id v (after_made v.me) at (mine (λ x. Each (LoadFits k p.log) x.loads.shown) vs id v at r.loads) r.loads);
+  full = each_more (λ x. Each (λ e. IsTrueRoom (k.room - length x.room.used) e.entry) x.entries) (set vs id (left_of v)) (account (caller_after k m) 0) (right_of k m) refl refl (each_none (λ e. IsTrueRoom (k.room - length {A = ℕ} []) e.entry))
+      (changed (λ x. Each (λ e. IsTrueRoom (k.room - length x.room.used) e.entry) x.entries) vs id v (after_made v.me) at (mine (λ x. Each (λ e. IsTrueRoom (k.room - length x.room.used) e.entry) x.entries) vs id v at r.full) r.full);
+  rooms = caller_rooms k p.regions p.log.front p.log.slots vs id m v r.rooms at is;
 }
 
 not_gone : {m : ℕ} → Opener m ≡ Gone → ⊥

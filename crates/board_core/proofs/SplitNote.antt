@@ -19,6 +19,11 @@ use Rattle.board_core.specs.LogRule.{hand_of, is_held, word_or_0, HandFits, LogR
 use Rattle.board_core.specs.Truths.{IsTrueLog, IsTrueStory}
 use Rattle.board_core.specs.StoryRule.{StoryRule}
 use Rattle.board_core.specs.LoadRule.{LoadFits}
+use Rattle.board_core.specs.RoomRule.{store_of, RoomFits, ShowsSealed}
+use Rattle.board_core.proofs.RoomFrame.{none_fits}
+use Rattle.board_core.proofs.Some.{some_more}
+use Rattle.board_core.specs.Truths.{IsTrueRoom}
+use Rattle.std.proofs.Common.{◌-◌, length}
 use Rattle.board_core.specs.Holds.{Rule, Holds}
 use Rattle.board_core.proofs.Lists.{each_none, each_snoc}
 use Rattle.board_core.proofs.Everyone.{each_more, total_more}
@@ -69,6 +74,11 @@ note k p h vs id v r at here =
       log = note_log k p.log h vs n front r.log refl refl (hand_at k p.log h vs id v r.log at).seen;
       stories = note_stories k h vs n front r.stories refl refl;
       loads = each_more (λ x. Each (LoadFits k p.log) x.loads.shown) vs (account Note front) n refl refl (each_none (LoadFits k p.log)) r.loads;
+      full = each_more (λ x. Each (λ e. IsTrueRoom (k.room - length x.room.used) e.entry) x.entries) vs (account Note front) n refl refl (each_none (λ e. IsTrueRoom (k.room - length {A = ℕ} []) e.entry)) r.full;
+      rooms = record {
+        rooms = each_more (λ x. RoomFits k p.regions (store_of x)) vs (account Note front) n refl refl (none_fits k p.regions Note) r.rooms.rooms;
+        named = λ i behind kind. some_more (ShowsSealed (p.log.slots i)) vs n (r.rooms.named i behind kind);
+      };
     }
 
 pub note_splits : (k : Shape) (id : ℕ) (v : View) → v.me.who ≢ Gone → Splits (Holds k) id v v (view v.shape (account Note v.me.log.seen))

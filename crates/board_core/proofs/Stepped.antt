@@ -14,6 +14,9 @@ use Rattle.board_core.specs.Accounts.{with_me}
 use Rattle.board_core.specs.LogRule.{LogRule}
 use Rattle.board_core.specs.StoryRule.{StoryRule}
 use Rattle.board_core.specs.LoadRule.{LoadRule}
+use Rattle.board_core.specs.FullRule.{FullRule}
+use Rattle.board_core.specs.RoomRule.{store_of, RoomRule}
+use Rattle.board_core.proofs.RoomFrame.{rooms_same}
 use Rattle.board_core.specs.Holds.{Rule, Holds}
 use Rattle.board_core.proofs.SeatFrame.{seats_same}
 
@@ -29,20 +32,24 @@ pub record LeavesRest (p q : Parts) (a b : Account) : Type 0 where
   pub tree : b.tree ≡ a.tree
   pub counts : b.counts ≡ a.counts
 
--- and those of the regions
+-- and the words of the regions and the log but for the lock, and what is known of them
 pub record LeavesRegions (p q : Parts) (a b : Account) : Type 0 where
   pub words : q.regions ≡ p.regions
-  pub room : b.room ≡ a.room
+  pub front : q.log.front ≡ p.log.front
+  pub slots : q.log.slots ≡ p.log.slots
+  pub store : store_of b ≡ store_of a
 
 -- a step of the log that changes the regions or what is known of them. Parts of the pool, the tree and the counts are framed here
 pub by_region : (k : Shape) (p q : Parts) (h g : List Event) (vs : List View) (id : ℕ) (v : View) (a : Account) → Rule k p h vs → get_elem? vs id ≡ some v → LeavesRest p q v.me a
-    → LogRule k q.log g (set vs id (with_me v a)) → StoryRule k g (set vs id (with_me v a)) → LoadRule k q.log (set vs id (with_me v a)) → Rule k q g (set vs id (with_me v a))
-by_region k p q h g vs id v a r at rest log stories loads = record { seats = seats_same k vs id v a r.seats at rest.who; log = log; stories = stories; loads = loads }
+    → LogRule k q.log g (set vs id (with_me v a)) → StoryRule k g (set vs id (with_me v a)) → FullRule k (set vs id (with_me v a)) → LoadRule k q.log (set vs id (with_me v a)) → RoomRule k q.regions q.log.front q.log.slots (set vs id (with_me v a)) → Rule k q g (set vs id (with_me v a))
+by_region k p q h g vs id v a r at rest log stories full loads rooms = record { seats = seats_same k vs id v a r.seats at rest.who; log = log; stories = stories; loads = loads; rooms = rooms; full = full }
 
 -- a step of the log alone. Parts of the regions are framed here
 pub by_log : (k : Shape) (p q : Parts) (h g : List Event) (vs : List View) (id : ℕ) (v : View) (a : Account) → Rule k p h vs → get_elem? vs id ≡ some v → LeavesRest p q v.me a → LeavesRegions p q v.me a
-    → LogRule k q.log g (set vs id (with_me v a)) → StoryRule k g (set vs id (with_me v a)) → LoadRule k q.log (set vs id (with_me v a)) → Rule k q g (set vs id (with_me v a))
-by_log k p q h g vs id v a r at rest regions log stories loads = by_region k p q h g vs id v a r at rest log stories loads
+    → LogRule k q.log g (set vs id (with_me v a)) → StoryRule k g (set vs id (with_me v a)) → FullRule k (set vs id (with_me v a)) → LoadRule k q.log (set vs id (with_me v a)) → Rule k q g (set vs id (with_me v a))
+by_log k p q h g vs id v a r at rest regions log stories full loads = by_region k p q h g vs id v a r at rest log stories full loads
+    (subst (λ (x : (ℕ → ℕ) × ℕ × (ℕ → ℕ)). RoomRule k x.0 x.1 x.2 (set vs id (with_me v a))) (λ i. (sym regions.words i, sym regions.front i, sym regions.slots i))
+    (rooms_same k p.regions p.log.front p.log.slots vs id v a r.rooms at regions.store))
 
 -- a step that leaves the words as they were
 pub still : (k : Shape) (s : St) (i id : ℕ) (cs : List _) (v : View) (a : Account) → Holds k s → Rule k (parts_of k s.words) (history_of k (parts_of k s.words)) (set s.views id (with_me v a))

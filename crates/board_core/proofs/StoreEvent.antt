@@ -14,14 +14,17 @@ use Rattle.board_core.specs.Words.{LogWords, Parts, parts_of, stored, log_at}
 use Rattle.board_core.specs.Histories.{history_of, IsOpen, MayShow}
 use Rattle.board_core.specs.Accounts.{with_me, total}
 use Rattle.board_core.specs.LogRule.{Hand, hand_of, is_held, word_or_0, Holds as HoldsLock, IsNext, HandFits, LogRule}
+use Rattle.board_core.specs.RoomRule.{store_of, IsSealed, RoomFits, SomeAccount, ShowsSealed, RoomRule}
+use Rattle.board_core.proofs.Some.{some_changed}
+use Rattle.board_core.proofs.FullFrame.{full_same}
 use Rattle.board_core.specs.Holds.{Rule, Holds}
 use Rattle.board_core.specs.After.{after_logged}
 use Rattle.board_core.specs.Steps.{Mine, IsPublicationOf, IsWithdrawalOf, MayLog, Logs}
-use Rattle.board_core.proofs.Everyone.{moved, total_changed, total_same, total_only}
+use Rattle.board_core.proofs.Everyone.{mine, changed, moved, total_changed, total_same, total_only}
 use Rattle.board_core.proofs.LogFrame.{hand_at, same_some, free_quiet, free_fits, owner, others_free}
 use Rattle.board_core.proofs.StoryFrame.{stories_same}
 use Rattle.board_core.proofs.LoadFrame.{loads_same}
-use Rattle.board_core.proofs.Stepped.{by_log, words_moved}
+use Rattle.board_core.proofs.Stepped.{by_region, words_moved}
 use Rattle.board_core.specs.LogWord.{kind_in, loader_in, target_in}
 use Rattle.board_core.proofs.Stored.{stored_here, stored_else}
 use Rattle.board_core.proofs.Changed.{set_slot}
@@ -87,15 +90,40 @@ event_log k w h vs id loader word v r at may =
           (λ x other fits. free_fits k w u h h (hand_of x) (others_free k w h vs v.me r may.holding x other) (omega arith) fits) r.hands;
     }
 
+-- the block that the word shows is the one that is pending
+pending_sealed : (k : Shape) (regions : ℕ → ℕ) (a : Account) (loader word : ℕ) → loader < 2 ^ 8 → RoomFits k regions (store_of a) → IsPublicationOf a loader word ⊎ IsWithdrawalOf a loader word → ¬ (kind_in word ≡ 2) → IsSealed a.room.sealed (target_in word)
+pending_sealed k regions a loader word small f (inl t) not_a_withdrawal = subst (IsSealed a.room.sealed) (sym (ap target_in t.3 ∙ target_back 1 loader t.0 small t.2)) (f.shows t.0 t.1)
+pending_sealed k regions a loader word small f (inr t) not_a_withdrawal = absurd (not_a_withdrawal (ap kind_in t.3 ∙ kind_back 2 loader t.0.target small t.2))
+
+pub event_rooms : (k : Shape) (regions : ℕ → ℕ) (front : ℕ) (slots : ℕ → ℕ) (vs : List View) (id word : ℕ) (v : View) → RoomRule k regions front slots vs → get_elem? vs id ≡ some v → (¬ (kind_in word ≡ 2) → IsSealed v.me.room.sealed (target_in word))
+    → RoomRule k regions front (stored slots front word) (set vs id (with_me v (after_logged v.me word)))
+event_rooms k regions front slots vs id word v r at sealed =
+    let a : Account = after_logged v.me word in
+    let f = mine (λ x. RoomFits k regions (store_of x)) vs id v at r.rooms in record {
+      rooms = changed (λ x. RoomFits k regions (store_of x)) vs id v a at
+          record {
+            within = f.within;
+            stands = f.stands;
+            sealed = f.sealed;
+            in_order = f.in_order;
+            shows = f.shows;
+            logged = λ other e. subst (λ (w : ℕ). ¬ (kind_in w ≡ 2) → IsSealed v.me.room.sealed (target_in w)) (same_some word other e) sealed;
+          } r.rooms;
+      named = λ i behind kind. let same : stored slots front word i ≡ slots i = stored_else slots front word i (λ e. omega arith) in
+          subst (λ (w : ℕ). SomeAccount (ShowsSealed w) (set vs id (with_me v a))) (sym same)
+          (some_changed (ShowsSealed (slots i)) vs id v a at (λ t. t) (r.named i behind (subst (λ (w : ℕ). ¬ (kind_in w ≡ 2)) same kind)));
+    }
+
 pub store_event : (k : Shape) (p : Parts) (h : List Event) (vs : List View) (id loader word : ℕ) (v : View) → Rule k p h vs → get_elem? vs id ≡ some v → MayLog k v.me loader word
     → Rule k (record p { log = record p.log { slots = stored p.log.slots p.log.front word } }) h (set vs id (with_me v (after_logged v.me word)))
 store_event k p h vs id loader word v r at may =
-    let u : LogWords = record p.log { slots = stored p.log.slots p.log.front word } in by_log k p (record p { log = u }) h h vs id v (after_logged v.me word) r at
+    let u : LogWords = record p.log { slots = stored p.log.slots p.log.front word } in by_region k p (record p { log = u }) h h vs id v (after_logged v.me word) r at
     record { who = refl; pool_words = refl; page_words = refl; pool = refl; tree = refl; counts = refl }
-    record { words = refl; room = refl }
     (event_log k p.log h vs id loader word v r.log at may)
     (stories_same k h vs id v (after_logged v.me word) r.stories at refl refl)
+    (full_same k vs id v (after_logged v.me word) r.full at refl refl)
     (loads_same k p.log u vs id v (after_logged v.me word) r.loads at record { front = omega arith; slots = λ i behind. stored_else p.log.slots p.log.front word i (λ e. omega arith) } refl)
+    (event_rooms k p.regions p.log.front p.log.slots vs id word v r.rooms at (pending_sealed k p.regions v.me loader word may.small (mine (λ x. RoomFits k p.regions (store_of x)) vs id v at r.rooms.rooms) may.kind))
 
 pub event_allowed : (k : Shape) (slots id place loader word : ℕ) (m : Mine) → place ≡ log_at k + m.0.me.log.seen → MayLog k m.0.me loader word → Allows (Holds k) slots id m place (λ _. word) (λ _. Logs (step slots place word 0 none) m word)
 event_allowed k slots id place loader word m is may s h _ at _ =

@@ -6,6 +6,8 @@ use Rattle.board_core.specs.declared.log.Holding.{Holding}
 use Rattle.board_core.specs.declared.log.Holding.TheVariants.{Away, Taken, Fronted}
 use Rattle.board_core.specs.declared.log.Ending.{Ending}
 use Rattle.board_core.specs.declared.room.RoomAccount.{RoomAccount}
+use Rattle.board_core.specs.declared.room.Row.{Row}
+use Rattle.board_core.specs.declared.room.Sealed.{Sealed}
 use Rattle.board_core.specs.declared.loads.Loads.{Loads}
 use Rattle.board_core.specs.declared.loads.Lengths.{Lengths}
 use Rattle.board_core.specs.declared.entry.Entry.{Entry}
@@ -89,3 +91,14 @@ after_hear a front = record a { log = record a.log { seen = max a.log.seen front
 -- the opener has made one caller more
 abbrev pub after_made : Account → Account
 after_made a = record a { who = Opener (made_by a.who + 1) }
+
+-- a word of the own region is stored; it completes these blocks, none or one
+abbrev pub after_word : Account → ℕ → List Sealed → Account
+after_word a word more = record a { room = record a.room { used = a.room.used ++ word ∷ []; sealed = a.room.sealed ++ more } }
+
+-- a code word of a row, and a name, atom or bond word, was loaded
+abbrev pub after_code : Account → Row → ℕ → ℕ → Account
+after_code a row code word = record a { loads = record a.loads { codes = a.loads.codes ++ record { row = row; code = code; word = word } ∷ [] } }
+
+abbrev pub after_fact : Account → ℕ → ℕ → Account
+after_fact a place word = record a { loads = record a.loads { facts = a.loads.facts ++ record { place = place; word = word } ∷ [] } }

@@ -10,6 +10,8 @@ use Rattle.board_core.specs.SeatRule.{SeatRule}
 use Rattle.board_core.specs.LogRule.{LogRule}
 use Rattle.board_core.specs.StoryRule.{StoryRule}
 use Rattle.board_core.specs.LoadRule.{LoadRule}
+use Rattle.board_core.specs.RoomRule.{RoomRule}
+use Rattle.board_core.specs.FullRule.{FullRule}
 
 -- the parts, over the words by group, the history that they show, and all views
 pub record Rule (k : Shape) (p : Parts) (history : List Event) (vs : List View) : Type 0 where
@@ -17,6 +19,8 @@ pub record Rule (k : Shape) (p : Parts) (history : List Event) (vs : List View) 
   pub log : LogRule k p.log history vs
   pub stories : StoryRule k history vs
   pub loads : LoadRule k p.log vs
+  pub rooms : RoomRule k p.regions p.log.front p.log.slots vs
+  pub full : FullRule k vs
 
 pub record Holds (k : Shape) (s : State (Unit {0}) View) : Type 0 where
   pub wide : length s.words ≡ total_of k

@@ -4,12 +4,13 @@ pub mod LogWord
 pub mod Blocks
 pub mod Histories
 pub mod Accounts
-pub mod After
 pub mod Truths
 pub mod SeatRule
 pub mod LogRule
 pub mod StoryRule
 pub mod LoadRule
 pub mod RoomRule
+pub mod FullRule
+pub mod After
 pub mod Holds
 pub mod Steps

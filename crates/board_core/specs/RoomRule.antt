@@ -12,7 +12,7 @@ use Rattle.board_core.specs.declared.log.Pending.{Pending}
 use Rattle.board_core.specs.declared.room.Sealed.{Sealed}
 use Rattle.board_core.specs.declared.room.RoomAccount.{RoomAccount}
 use Rattle.board_core.specs.Each.{Each}
-use Rattle.board_core.specs.Words.{LogWords, regions_at}
+use Rattle.board_core.specs.Words.{regions_at}
 use Rattle.board_core.specs.LogWord.{kind_in, loader_in, target_in}
 use Rattle.board_core.specs.Blocks.{block_size}
 use Rattle.board_core.specs.Accounts.{EachAccount, accounts_in}
@@ -53,10 +53,10 @@ abbrev pub IsMark : List Sealed → ℕ → Type 0
 IsMark blocks at = (j : ℕ) × (s : Sealed) × (get_elem? blocks j ≡ some s) × ((at ≡ s.place + 1) ⊎ (at ≡ s.place + 2))
 
 -- a sealed block lies in what is used of the region, and is as long as its first word says
-pub record SealedFits (k : Shape) (who : Who) (used : List ℕ) (s : Sealed) : Type 0 where
-  pub from : region_of k who ≤ s.place
-  pub until : s.place + s.size ≤ region_of k who + length used
-  pub long : s.size ≡ block_size (slice_index used (s.place - region_of k who + 0))
+pub record SealedFits (base : ℕ) (used : List ℕ) (s : Sealed) : Type 0 where
+  pub from : base ≤ s.place
+  pub until : s.place + s.size ≤ base + length used
+  pub long : s.size ≡ block_size (slice_index used (s.place - base + 0))
 
 -- blocks lie one after the other
 abbrev pub AreInOrder : List Sealed → Type 0
@@ -65,7 +65,7 @@ AreInOrder blocks = (i j : ℕ) (s t : Sealed) → get_elem? blocks i ≡ some s
 pub record RoomFits (k : Shape) (regions : ℕ → ℕ) (a : Store) : Type 0 where
   pub within : length a.room.used ≤ room_of k a.who
   pub stands : (i : ℕ) → i < length a.room.used → ¬ (IsMark a.room.sealed (region_of k a.who + i)) → regions (region_of k a.who + i - regions_at k) ≡ slice_index a.room.used i
-  pub sealed : Each (SealedFits k a.who a.room.used) a.room.sealed
+  pub sealed : Each (SealedFits (region_of k a.who) a.room.used) a.room.sealed
   pub in_order : AreInOrder a.room.sealed
   pub shows : (block : ℕ) → a.pending.shows ≡ Some block → IsSealed a.room.sealed block
   pub logged : (word : ℕ) → a.pending.logged ≡ Some word → ¬ (kind_in word ≡ 2) → IsSealed a.room.sealed (target_in word)
@@ -78,9 +78,9 @@ SomeAccount F vs = (j : ℕ) × (v : View) × (get_elem? vs j ≡ some v) × (i 
 abbrev pub ShowsSealed : ℕ → Account → Type 0
 ShowsSealed word a = (a.who ≡ Loader (loader_in word)) × IsSealed a.room.sealed (target_in word)
 
-pub record RoomRule (k : Shape) (regions : ℕ → ℕ) (w : LogWords) (vs : List View) : Type 0 where
+pub record RoomRule (k : Shape) (regions : ℕ → ℕ) (front : ℕ) (slots : ℕ → ℕ) (vs : List View) : Type 0 where
   pub rooms : EachAccount (λ a. RoomFits k regions (store_of a)) vs
-  pub named : (i : ℕ) → i < w.front → ¬ (kind_in (w.slots i) ≡ 2) → SomeAccount (ShowsSealed (w.slots i)) vs
+  pub named : (i : ℕ) → i < front → ¬ (kind_in (slots i) ≡ 2) → SomeAccount (ShowsSealed (slots i)) vs
 
 -- words of sealed blocks other than marks are as they were
 abbrev pub SameSealed : Shape → (ℕ → ℕ) → (ℕ → ℕ) → List View → Type 0

@@ -1,5 +1,5 @@
 -- When a caller may take each kind of step, and what the step tells it: of the seat before, the number found, and the seat after.
-use Rattle.std.specs.Prelude.{◌≡◌, ◌≢◌, ℕ, ◌<◌, ◌≤◌, ◌^◌, ◌⊎◌, List, [], Some, None}
+use Rattle.std.specs.Prelude.{◌≡◌, ◌≢◌, ℕ, ◌<◌, ◌≤◌, ◌^◌, ◌⊎◌, List, [], Some, None, length, ◌++◌, ◌∷◌, ◌+◌, ◌-◌}
 use Rattle.atomic_table.specs.Table.{Me, Step}
 use Rattle.htss_defs.specs.declared.shape.Shape.{Shape}
 use Rattle.htss_defs.specs.declared.history.Event.{Event}
@@ -12,12 +12,15 @@ use Rattle.board_core.specs.declared.log.Ending.{Ending}
 use Rattle.board_core.specs.declared.entry.Entry.{Entry}
 use Rattle.board_core.specs.Each.{Each}
 use Rattle.board_core.specs.Words.{Parts}
-use Rattle.board_core.specs.Histories.{history_of}
+use Rattle.board_core.specs.Histories.{history_of, shown_by}
 use Rattle.board_core.specs.Accounts.{nothing, with_me}
-use Rattle.board_core.specs.Truths.{IsTrueLog, told_in}
+use Rattle.board_core.specs.Truths.{IsTrueRoom, IsTrueLog, told_in}
+use Rattle.board_core.specs.declared.room.Sealed.{Sealed}
+use Rattle.board_core.specs.declared.room.Row.{Row}
+use Rattle.board_core.specs.RoomRule.{own_block, region_of, store_of, SealedFits}
 use Rattle.board_core.specs.LoadRule.{LoadFits}
-use Rattle.board_core.specs.LogWord.{publication_word, withdrawal_word}
-use Rattle.board_core.specs.After.{noted, after_take, after_free, after_answer, after_front, after_shows, after_ends, after_logged, after_event, after_shown}
+use Rattle.board_core.specs.LogWord.{publication_word, target_in, withdrawal_word}
+use Rattle.board_core.specs.After.{after_code, after_fact, after_word, noted, after_take, after_free, after_answer, after_front, after_shows, after_ends, after_logged, after_event, after_shown}
 
 abbrev pub Mine : Type 0
 Mine = Me (Unit {0}) View
@@ -36,11 +39,21 @@ MayTake a = a.log.holding ≡ Away
 abbrev pub MayFree : Account → Type 0
 MayFree a = (a.log.holding ≡ Fronted) × (a.log.pending ≡ nothing)
 
--- a mark may be stored: the front was loaded under the lock, the log has room, and no log word is pending
+-- the next word of the region may be stored
+pub record MayStore (k : Shape) (a : Account) (loader : ℕ) : Type 0 where
+  pub who : a.who ≡ Loader loader
+  pub room : length a.room.used < k.room
+
+-- with that word a block is complete: it lies past the others, and is as long as its first word says
+pub record MaySeal (k : Shape) (a : Account) (word : ℕ) (s : Sealed) : Type 0 where
+  pub fits : SealedFits (region_of k a.who) (a.room.used ++ word ∷ []) s
+  pub past : Each (λ t. t.place + t.size ≤ s.place) a.room.sealed
+
+-- a mark may be stored: the front was loaded under the lock, the log has room, and nothing is pending
 pub record MayMark (k : Shape) (a : Account) : Type 0 where
   pub holding : a.log.holding ≡ Fronted
   pub room : a.log.seen < k.log
-  pub not_yet : a.log.pending.logged ≡ None
+  pub quiet : a.log.pending ≡ nothing
 
 -- the word of the publication, or of the withdrawal, whose mark is stored
 abbrev pub IsPublicationOf : Account → ℕ → ℕ → Type 0
@@ -57,6 +70,10 @@ pub record MayLog (k : Shape) (a : Account) (loader word : ℕ) : Type 0 where
   pub room : a.log.seen < k.log
   pub not_yet : a.log.pending.logged ≡ None
   pub kind : IsPublicationOf a loader word ⊎ IsWithdrawalOf a loader word
+
+-- the event that the caller's log word shows, by what it has stored
+abbrev pub event_by : Shape → Account → ℕ → Event
+event_by k a word = shown_by (own_block k (store_of a) (target_in word)) word
 
 -- the event may be shown
 pub record MayShowEvent (a : Account) (word : ℕ) : Type 0 where
@@ -79,6 +96,7 @@ pub record Agrees (k : Shape) (p : Parts) (a : Account) : Type 0 where
 pub record AreTrue (k : Shape) (a : Account) (es : List Entry) : Type 0 where
   pub silent : told_in (noted a.loads es) ≡ []
   pub each : (p : Parts) → Known k p → Agrees k p a → Each (IsTrueLog k (history_of k p)) es
+  pub rooms : Each (IsTrueRoom (k.room - length a.room.used)) es
 
 -- ---- what the steps tell
 
@@ -99,6 +117,10 @@ pub record LoadsFront (s : Step (Unit {0})) (m : Mine) (found : ℕ) (n : Mine) 
   pub in_log : found ≤ m.0.shape.log
   pub same : m.0.me.log.holding ≡ Fronted → found ≡ m.0.me.log.seen
 
+-- a word of the region is stored, and completes these blocks
+abbrev pub Stores : List Sealed → Step (Unit {0}) → Mine → ℕ → Mine → Type 0
+Stores more s m found n = n ≡ became m (after_word m.0.me s.first more)
+
 -- the mark of a block is stored: of its publication, of its withdrawal
 abbrev pub Shows : ℕ → Step (Unit {0}) → Mine → ℕ → Mine → Type 0
 Shows block s m found n = n ≡ became m (after_shows m.0.me block)
@@ -114,3 +136,9 @@ ShowsEvent e s m found n = n ≡ became m (after_event m.0.me e)
 
 abbrev pub LoadsShown : Step (Unit {0}) → Mine → ℕ → Mine → Type 0
 LoadsShown s m found n = n ≡ became m (after_shown m.0.me s.word found)
+
+abbrev pub LoadsCode : Row → ℕ → Step (Unit {0}) → Mine → ℕ → Mine → Type 0
+LoadsCode row code s m found n = n ≡ became m (after_code m.0.me row code found)
+
+abbrev pub LoadsFact : Step (Unit {0}) → Mine → ℕ → Mine → Type 0
+LoadsFact s m found n = n ≡ became m (after_fact m.0.me s.word found)

@@ -1,5 +1,5 @@
 -- What makes an entry true of a history, and which events an account tells of.
-use Rattle.std.specs.Prelude.{◌≡◌, ℕ, ◌≤◌, List, [], ◌∷◌, ◌++◌, length, take}
+use Rattle.std.specs.Prelude.{◌<◌, ◌≡◌, ℕ, ◌≤◌, List, [], ◌∷◌, ◌++◌, length, take}
 use Rattle.htss_defs.specs.declared.shape.Shape.{Shape}
 use Rattle.htss_defs.specs.declared.history.Event.{Event}
 use Rattle.htss_defs.specs.declared.history.Event.TheVariants.{Publish, Withdraw}
@@ -19,7 +19,7 @@ abbrev pub reply_of : Reply → Answer
 reply_of (Hits hits) = found hits
 reply_of OverBudget = over_budget
 
--- the half of an entry's truth that reads the history. What reads regions, states or pages stands with their groups
+-- the half of an entry's truth that reads the history. What reads states or pages stands with their groups
 abbrev pub IsTrueLog : Shape → List Event → Entry → Type 0
 IsTrueLog k h (Published number event) = HasEvent h number event
 IsTrueLog k h (Withdrawn number event) = HasEvent h number event
@@ -31,6 +31,19 @@ IsTrueLog k h (DataFull left need) = Unit {0}
 IsTrueLog k h NoPage = Unit {0}
 IsTrueLog k h (ChainFull pages) = Unit {0}
 IsTrueLog k h (Swept need front rows) = Unit {0}
+
+-- the half that reads how many words of the caller's region are left
+abbrev pub IsTrueRoom : ℕ → Entry → Type 0
+IsTrueRoom unused (Published number event) = Unit {0}
+IsTrueRoom unused (Withdrawn number event) = Unit {0}
+IsTrueRoom unused (Answered query budget front reply) = Unit {0}
+IsTrueRoom unused (Unknown number front) = Unit {0}
+IsTrueRoom unused (Ended number at) = Unit {0}
+IsTrueRoom unused (LogFull front) = Unit {0}
+IsTrueRoom unused (DataFull left need) = (left < need) × (unused ≤ left)
+IsTrueRoom unused NoPage = Unit {0}
+IsTrueRoom unused (ChainFull pages) = Unit {0}
+IsTrueRoom unused (Swept need front rows) = Unit {0}
 
 -- the entry of an event, and the events that an entry tells of
 abbrev pub entry_of : ℕ → Event → Entry

@@ -1,0 +1,5 @@
+pub mod Tied
+pub mod News
+pub mod Gathers
+pub mod Endings
+pub mod Firsts

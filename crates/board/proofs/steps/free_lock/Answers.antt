@@ -1,0 +1,15 @@
+use Rattle.std.proofs.Common.{arith}
+use Rattle.htss_defs.specs.declared.shape.Shape.{Shape}
+use Rattle.board_core.specs.declared.account.Account.{Account}
+use Rattle.board_core.specs.Steps.{MayFree, AreTrue}
+use Rattle.board_core.proofs.FreeLock.{free_allowed}
+use Rattle.board.proofs.Tied.{same_table, low_word, of_account, of_both}
+use Rattle.board.proofs.steps.free_lock.Goals as goal
+
+pub store-requires : goal.store-requires
+store-requires g c = (
+  same_table _ _ _ _ _ _ _ c.board.view_is c.caller.view_is c.requires.fits,
+  low_word _ _ _ _ _ _ 1 c.board.invariant.1 (omega arith),
+  free_allowed _ _ _ _ _ (of_account MayFree _ _ _ _ c.caller.view_is c.requires.may)
+      (of_both (λ (k : Shape) (a : Account). AreTrue k a g.E.Answers.entries) _ _ _ _ _ _ _ _ c.board.view_is c.caller.view_is c.board.invariant.0 c.requires.answers),
+)

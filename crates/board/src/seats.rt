@@ -1,0 +1,101 @@
+// The board, its callers and their notes.
+ghost use Rattle.std.specs.Prelude.{◌≡◌};
+ghost use Rattle.htss_defs.specs.Shapes.{IsShape};
+ghost use Rattle.board.specs.Seated.{number_of, is_loader};
+
+use atomic_table::{Seat, Table};
+use board_core::{Ruled, View};
+use htss_defs::Shape;
+use std::alloc::Global;
+use std::marker::Model;
+
+/// The words that all callers share. Contracts see which table it is, and its shape.
+#[derive(Drop)]
+pub struct Board {
+    pub(crate) table: Table<(), View, Shape, Ruled, Global>,
+    pub(crate) shape: Shape,
+}
+
+impl Model for Board {
+    ghost use Rattle.std.specs.Prelude.{◌≡◌};
+    ghost use Rattle.htss_defs.specs.Shapes.{IsShape};
+    ghost use Rattle.board.specs.Seated.{Place};
+    ghost use Rattle.board_core.specs.Words.{total_of};
+
+    ghost Value = { Place };
+
+    ghost view = { λ b. record { table = b.table.shared.table_id; shape = b.shape } };
+
+    ghost invariant = { λ b. (b.table.shared.key ≡ b.shape) × (b.table.shared.table_id.words ≡ total_of b.shape) × IsShape b.shape × (b.table.shared.table_id.slots ≡ 0) };
+}
+
+impl Board {
+    /// The shape that the board was opened with.
+    pub fn shape(&self) -> Shape
+        ensures value { result ≡ self.now.shape }
+        ensures limits { IsShape self.now.shape }
+    {
+        self.shape
+    }
+}
+
+/// A caller of a board: a loader or a searcher. Contracts see its board, the shape, and its account.
+#[derive(Drop)]
+pub struct Caller {
+    pub(crate) seat: Seat<(), View>,
+    pub(crate) seen: u32,
+    pub(crate) loader: bool,
+    pub(crate) number: u8,
+}
+
+impl Model for Caller {
+    ghost use Rattle.std.specs.Prelude.{◌≡◌, []};
+    ghost use Rattle.board.specs.Seated.{Seated, who_of};
+
+    ghost Value = { Seated };
+
+    ghost view = { λ c. record { table = c.seat.table_id; shape = c.seat.me.0.shape; account = c.seat.me.0.me } };
+
+    ghost invariant = { λ c. (c.seen ≡ c.seat.me.0.me.log.seen) × (c.seat.me.0.me.who ≡ who_of c.loader c.number) × (c.seat.me.0.kept ≡ []) × (c.seat.me.1 ≡ []) };
+}
+
+impl Caller {
+    /// The greatest front that the caller loaded, heard or made.
+    pub fn seen(&self) -> u32
+        ensures { result ≡ self.now.account.log.seen }
+    {
+        self.seen
+    }
+
+    /// Whether it is a loader. The others are searchers.
+    pub fn is_loader(&self) -> bool
+        ensures { result ≡ is_loader self.now.account.who }
+    {
+        self.loader
+    }
+
+    /// Its number among its kind, from 1.
+    pub fn number(&self) -> u8
+        ensures { result ≡ number_of self.now }
+    {
+        self.number
+    }
+}
+
+/// What a caller had seen, for another to hear. Contracts see its board, and the front.
+#[derive(Drop)]
+pub struct Note {
+    pub(crate) seat: Seat<(), View>,
+    pub(crate) seen: u32,
+}
+
+impl Model for Note {
+    ghost use Rattle.std.specs.Prelude.{◌≡◌, []};
+    ghost use Rattle.board.specs.Seated.{Told, IsNoteOf};
+
+    ghost Value = { Told };
+
+    ghost view = { λ n. record { table = n.seat.table_id; seen = n.seen } };
+
+    ghost invariant = { λ n. IsNoteOf n.seat.me.0 n.seen × (n.seat.me.1 ≡ []) };
+}
