@@ -1,6 +1,7 @@
 // How far a report is read.
 ghost use Rattle.std.specs.Prelude.{◌≡◌, Some, IfOk};
 ghost use Rattle.report_text.specs.ReportText.{is_published, published_count};
+ghost use Rattle.report_lines.specs.declared.line.Line.TheVariants.{Load, Log, Search};
 ghost use Rattle.report_read.specs.Stages.{after_answer, after_block, after_event, after_fresh, after_hit, step, with_block};
 ghost use Rattle.report_read.specs.StageOf.{begun_of, maybe_stage, stage_of};
 
@@ -107,12 +108,7 @@ fn after_block(alloc: Global, begun: Begun, next: Line) -> Result<Option<State>,
     ensures { IfOk result (λ after. maybe_stage after ≡ after_block (begun_of begun) next) }
 {
     match next {
-        Line::Load { line, file } => Ok(Some(State::Loading {
-            begun,
-            line,
-            file,
-            answers: Vec::new(alloc),
-        })),
+        Line::Load { line, file } => Ok(Some(load_begun(alloc, begun, line, file))),
         Line::Withdraw {
             line,
             number,
@@ -125,17 +121,9 @@ fn after_block(alloc: Global, begun: Begun, next: Line) -> Result<Option<State>,
                 answer,
             },
         ),
-        Line::Search {
-            line,
-            file,
-            front: at,
-        } => Ok(Some(State::Searching {
-            begun,
-            line,
-            file,
-            at,
-            hits: Vec::new(alloc),
-        })),
+        Line::Search { line, file, front } => {
+            Ok(Some(search_begun(alloc, begun, line, file, front)))
+        }
         Line::NotRead {
             line,
             file,
@@ -149,12 +137,44 @@ fn after_block(alloc: Global, begun: Begun, next: Line) -> Result<Option<State>,
                 answer: SearchLine::Refused { line: at, code },
             },
         ),
-        Line::Log { count } => Ok(Some(State::Logging {
-            begun,
-            count,
-            events: Vec::new(alloc),
-        })),
+        Line::Log { count } => Ok(Some(log_begun(alloc, begun, count))),
         _ => Ok(None),
+    }
+}
+
+// A load begins.
+fn load_begun(alloc: Global, begun: Begun, line: u32, file: FileName) -> State
+    ensures { Some (stage_of result) ≡ after_block (begun_of begun) (Load line file) }
+{
+    State::Loading {
+        begun,
+        line,
+        file,
+        answers: Vec::new(alloc),
+    }
+}
+
+// A search begins.
+fn search_begun(alloc: Global, begun: Begun, line: u32, file: FileName, at: u32) -> State
+    ensures { Some (stage_of result) ≡ after_block (begun_of begun) (Search line file at) }
+{
+    State::Searching {
+        begun,
+        line,
+        file,
+        at,
+        hits: Vec::new(alloc),
+    }
+}
+
+// The log begins.
+fn log_begun(alloc: Global, begun: Begun, count: u32) -> State
+    ensures { Some (stage_of result) ≡ after_block (begun_of begun) (Log count) }
+{
+    State::Logging {
+        begun,
+        count,
+        events: Vec::new(alloc),
     }
 }
 
