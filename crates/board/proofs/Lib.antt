@@ -1,5 +1,7 @@
 pub mod Tied
+pub mod NextWord
 pub mod News
 pub mod Gathers
 pub mod Endings
+pub mod Closings
 pub mod Firsts

@@ -1,5 +1,5 @@
 -- A board that was closed.
-use Rattle.std.specs.Prelude.{◌≡◌, ℕ, ◌≤◌, List, length, slice_index}
+use Rattle.std.specs.Prelude.{◌≡◌, ℕ, ◌+◌, ◌≤◌, List, length, slice_index}
 use mathlib.Core.Option.{some}
 use lib.ListN.{get_elem?}
 use Rattle.atomic_table.specs.Table.{State}
@@ -9,25 +9,27 @@ use Rattle.htss_defs.specs.History.{IsLegal}
 use Rattle.board_core.specs.declared.account.Account.{Account}
 use Rattle.board_core.specs.declared.account.View.{View}
 use Rattle.board_core.specs.Each.{Each}
-use Rattle.board_core.specs.Words.{parts_of, part, log_at}
-use Rattle.board_core.specs.Blocks.{first_of}
+use Rattle.board_core.specs.Words.{Parts, parts_of}
+use Rattle.board_core.specs.LogRule.{IsByLoader}
+use Rattle.board_core.specs.Steps.{MayBe}
 use Rattle.board_core.specs.Histories.{history_of}
 use Rattle.board_core.specs.Accounts.{accounts_in}
 use Rattle.board_core.specs.Truths.{IsTrueStory}
 use Rattle.board_core.specs.Holds.{Holds}
 
--- what contracts see of it: the shape, the log words of all events in order, the events that they show, and the accounts that were
--- gathered
+-- the words from a place of the table on, counted from 0
+abbrev pub words_from : List ℕ → ℕ → ℕ → ℕ
+words_from ws place i = slice_index ws (place + i)
+
+-- what contracts see of it: the shape, the events of all fronts in order, and the accounts that were gathered
 pub record Closing : Type 0 where
   pub shape : Shape
-  pub log : List ℕ
   pub history : List Event
   pub accounts : List Account
 
 abbrev pub closing : Shape → List ℕ → View → Closing
 closing k ws v = record {
   shape = k;
-  log = first_of (part (log_at k) k.log ws) (slice_index ws 0);
   history = history_of k (parts_of k ws);
   accounts = accounts_in v;
 }
@@ -36,9 +38,13 @@ closing k ws v = record {
 abbrev pub Ends : Shape → List ℕ → View → Type 0
 Ends k ws v = (s : State (Unit {0}) View) × (id : ℕ) × Holds k s × (get_elem? s.views id ≡ some v) × (s.words ≡ ws)
 
--- the history is legal and fits the log, and each account is true of it
+-- the history is legal, fits the log and is by its loaders, and each account is true of it; the words that show it are such as each
+-- account has loaded
 pub record IsSettled (c : Closing) : Type 0 where
   pub legal : IsLegal c.history
   pub fits : length c.history ≤ c.shape.log
-  pub count : length c.history ≡ length c.log
+  pub loaders : Each (IsByLoader c.shape) c.history
   pub stories : Each (λ a. IsTrueStory c.shape c.history a.who a.entries) c.accounts
+  pub words : Parts
+  pub shows : history_of c.shape words ≡ c.history
+  pub may : Each (MayBe c.shape words) c.accounts

@@ -1,3 +1,4 @@
 pub mod Seated
 pub mod Refused
 pub mod Closed
+pub mod Staging

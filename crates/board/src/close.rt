@@ -1,21 +1,26 @@
 // A board is closed, with what its callers know.
-ghost use Rattle.std.specs.Prelude.{◌≡◌, ◌+◌, ◌<◌, List, [], ◌∷◌, length, map, IfOk};
+ghost use Rattle.std.specs.Prelude.{◌≡◌, ◌+◌, ◌<◌, ◌≤◌, ◌^◌, List, [], ◌∷◌, length, map, IfOk};
+ghost use Rattle.std.specs.Mem.Slots.{slots_items, slots_len, IsFull};
+ghost use Rattle.htss_defs.specs.History.{HasEvent};
+ghost use Rattle.board_core.specs.LogWord.{kind_in, loader_in, target_in};
+ghost use Rattle.board_core.specs.Blocks.{block_size, first_of};
 ghost use Rattle.board_core.specs.Each.{Each};
 ghost use Rattle.board_core.specs.Accounts.{accounts_in, keeping, view};
 ghost use Rattle.board.specs.Seated.{IsOf, IsAtRest, account_of};
-ghost use Rattle.board.specs.Closed.{IsSettled};
+ghost use Rattle.board.specs.Closed.{IsSettled, words_from};
 
-use crate::places::log_place;
+use crate::places::{log_place, words_in};
 use crate::plays::Kept;
 use crate::{Board, Caller};
 use atomic_table::{Closed, Seat};
+use block_words::{read_mol, read_name};
 use board_core::View;
-use htss_defs::{OutOfMemory, Shape};
+use htss_defs::{Event, OutOfMemory, Shape};
 use std::alloc::Global;
 use std::marker::Model;
 use std::snapshot::Snapshot;
 
-/// A board that was closed. Contracts see its shape, its log, the history, and the accounts of its callers.
+/// A board that was closed. Contracts see its shape, the history, and the accounts of its callers.
 pub struct Final {
     closed: Closed<(), Global>,
     shape: Shape,
@@ -85,18 +90,79 @@ impl Final {
         let _closed = &self.closed;
     }
 
-    /// The log words of all events, in order. The names and molecules that they show are not read yet.
-    pub fn history(&self, alloc: Global) -> Result<Vec<u64>, OutOfMemory>
-        ensures { IfOk result (λ words. words.items ≡ self.now.log) }
+    /// The events of all fronts, in order.
+    pub fn history(&self, alloc: Global) -> Result<Vec<Event>, OutOfMemory>
+        ensures { IfOk result (λ events. events.items ≡ self.now.history) }
     {
-        let mut words = Vec::new(alloc);
+        let mut events = Vec::new(alloc);
         let front = self.closed.word(0) as usize;
-        let first = log_place(self.shape);
         for i in 0..front {
-            words.push(self.closed.word(first + i))?;
+            let event = self.event(alloc, i)?;
+            events.push(event)?;
         }
-        Ok(words)
+        Ok(events)
     }
+
+    // The event of the log word at this place of the log, counted from 0.
+    fn event(&self, alloc: Global, index: usize) -> Result<Event, OutOfMemory>
+        requires { index < length self.now.history }
+        ensures { IfOk result (λ event. HasEvent self.now.history (index + 1) event) }
+    {
+        let first = log_place(self.shape);
+        let word = self.closed.word(first + index);
+        let caller = loader_of(word);
+        let target = target_of(word);
+        if kind_of(word) == 2 {
+            let number = target as u32;
+            return Ok(Event::Withdraw { caller, number });
+        }
+        let words = block_at(alloc, &self.closed, target as usize)?;
+        let name = read_name(&words);
+        let mol = read_mol(alloc, &words)?;
+        Ok(Event::Publish { caller, name, mol })
+    }
+}
+
+// The kind of event that a log word shows: 2 of a withdrawal.
+fn kind_of(word: u64) -> u64
+    ensures { result ≡ kind_in word }
+{
+    word >> 48
+}
+
+// The loader whose event a log word shows.
+fn loader_of(word: u64) -> u8
+    ensures { result ≡ loader_in word }
+{
+    ((word >> 40) % (1 << 8)) as u8
+}
+
+// The place of the block that a log word publishes, or the number that it withdraws.
+fn target_of(word: u64) -> u64
+    ensures { result ≡ target_in word }
+{
+    word % (1 << 40)
+}
+
+// The words of the block at this place.
+fn block_at(
+    alloc: Global,
+    closed: &Closed<(), Global>,
+    place: usize,
+) -> Result<Vec<u64>, OutOfMemory>
+    requires full { IsFull closed.now.words }
+    requires place { place < 2 ^ 40 }
+    requires within { place < slots_len closed.now.words }
+    requires whole { place + block_size (words_from (slots_items closed.now.words) place 0) ≤ slots_len closed.now.words }
+    ensures { IfOk result (λ words. words.items
+        ≡ first_of (words_from (slots_items closed.now.words) place) (block_size (words_from (slots_items closed.now.words) place 0))) }
+{
+    let mut words = Vec::new(alloc);
+    let size = words_in(closed.word(place));
+    for i in 0..size {
+        words.push(closed.word(place + i))?;
+    }
+    Ok(words)
 }
 
 impl Drop for Final {

@@ -54,6 +54,7 @@ fn make_caller(board: &Board, opener: &mut Seat<(), View>, made: u8) -> Caller
     Caller {
         seat,
         seen: 0,
+        used: 0,
         loader,
         number,
     }

@@ -1,7 +1,11 @@
 // Where the words of a board stand.
-ghost use Rattle.std.specs.Prelude.{◌≡◌};
+ghost use Rattle.std.specs.Prelude.{◌≡◌, ◌+◌, ◌-◌, ◌<◌, ◌≤◌, ◌^◌};
 ghost use Rattle.htss_defs.specs.Shapes.{IsShape};
+ghost use Rattle.board_core.specs.declared.account.Who.TheVariants.{Loader};
 ghost use Rattle.board_core.specs.Words.{log_at};
+ghost use Rattle.board_core.specs.Blocks.{atoms_in, block_size};
+ghost use Rattle.board_core.specs.Records.{code_word_at};
+ghost use Rattle.board_core.specs.RoomRule.{region_of};
 
 use htss_defs::Shape;
 
@@ -14,4 +18,36 @@ pub(crate) fn log_place(shape: Shape) -> usize
         + shape.searchers as usize
         + shape.pages as usize
         + 16 * shape.pages as usize
+}
+
+// The place of the first word of a loader's region.
+pub(crate) fn region_place(shape: Shape, loader: u8) -> usize
+    requires limits { IsShape shape }
+    requires loader { (0 < loader) × (loader ≤ shape.loaders) }
+    ensures { result ≡ region_of shape (Loader loader) }
+{
+    log_place(shape) + shape.log as usize + (loader as usize - 1) * shape.room as usize
+}
+
+// The place of a code word of an atom of a block with this first word. Atoms count from 1.
+pub(crate) fn code_place(block: u64, head: u64, atom: u16, code: u8) -> usize
+    requires block { block < 2 ^ 40 }
+    requires atom { (0 < atom) × (atom ≤ atoms_in head) }
+    requires code { code < 5 }
+    ensures { result ≡ block + code_word_at head (atom - 1) code }
+{
+    let bytes = (head >> 20) as usize % 128;
+    let atoms = head as usize % 1024;
+    let codes = 3 + (bytes + 7) / 8 + atoms;
+    block as usize + codes + (5 * (atom as usize - 1) + code as usize)
+}
+
+// How many words a block with this first word has.
+pub(crate) fn words_in(head: u64) -> usize
+    ensures { result ≡ block_size head }
+{
+    let atoms = head as usize % 1024;
+    let bonds = (head >> 10) as usize % 1024;
+    let bytes = (head >> 20) as usize % 128;
+    3 + (bytes + 7) / 8 + atoms + 5 * atoms + bonds
 }

@@ -1,4 +1,6 @@
 // What each kind of step tells, and how seats are split and joined.
+use crate::blocks::Coded;
+use crate::regions::{Completed, Ended, Marked};
 use crate::steps::{Answers, Shown};
 use atomic_table::{Join, Play, Split};
 use board_core::View;
@@ -43,9 +45,83 @@ impl Play<(), View> for LoadFront {
 pub(crate) struct LoadLogWord;
 
 impl Play<(), View> for LoadLogWord {
-    ghost use Rattle.board_core.specs.Steps.{LoadsShown};
+    ghost use Rattle.board_core.specs.Steps.{LoadsLog};
 
-    ghost then = { LoadsShown };
+    ghost then = { LoadsLog };
+}
+
+pub(crate) struct LoadHead;
+
+impl Play<(), View> for LoadHead {
+    ghost use Rattle.board_core.specs.Steps.{LoadsHead};
+
+    ghost then = { LoadsHead };
+}
+
+pub(crate) struct LoadMark;
+
+impl Play<(), View> for LoadMark {
+    ghost use Rattle.board_core.specs.Steps.{LoadsMark};
+
+    ghost then = { LoadsMark };
+}
+
+pub(crate) struct LoadFact;
+
+impl Play<(), View> for LoadFact {
+    ghost use Rattle.board_core.specs.Steps.{LoadsFact};
+
+    ghost then = { LoadsFact };
+}
+
+pub(crate) struct LoadCode<C> {
+    code: PhantomData<C>,
+}
+
+impl<C: Coded> Play<(), View> for LoadCode<C> {
+    ghost use Rattle.board_core.specs.Steps.{LoadsCode};
+
+    ghost then = { LoadsCode C.loaded_row C.loaded_code };
+}
+
+pub(crate) struct StoreWord;
+
+impl Play<(), View> for StoreWord {
+    ghost use Rattle.std.specs.Prelude.{[]};
+    ghost use Rattle.board_core.specs.Steps.{Stores};
+
+    ghost then = { Stores [] };
+}
+
+pub(crate) struct SealBlock<B> {
+    block: PhantomData<B>,
+}
+
+impl<B: Completed> Play<(), View> for SealBlock<B> {
+    ghost use Rattle.std.specs.Prelude.{[], ◌∷◌};
+    ghost use Rattle.board_core.specs.Steps.{Stores};
+
+    ghost then = { Stores (B.block ∷ []) };
+}
+
+pub(crate) struct StoreShown<B> {
+    block: PhantomData<B>,
+}
+
+impl<B: Marked> Play<(), View> for StoreShown<B> {
+    ghost use Rattle.board_core.specs.Steps.{Shows};
+
+    ghost then = { Shows B.block };
+}
+
+pub(crate) struct StoreEnded<E> {
+    ending: PhantomData<E>,
+}
+
+impl<E: Ended> Play<(), View> for StoreEnded<E> {
+    ghost use Rattle.board_core.specs.Steps.{Ends};
+
+    ghost then = { Ends E.ending };
 }
 
 pub(crate) struct StoreLogWord;

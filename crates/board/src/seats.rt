@@ -1,5 +1,5 @@
 // The board, its callers and their notes.
-ghost use Rattle.std.specs.Prelude.{◌≡◌};
+ghost use Rattle.std.specs.Prelude.{◌≡◌, length};
 ghost use Rattle.htss_defs.specs.Shapes.{IsShape};
 ghost use Rattle.board.specs.Seated.{number_of, is_loader};
 
@@ -44,19 +44,22 @@ impl Board {
 pub struct Caller {
     pub(crate) seat: Seat<(), View>,
     pub(crate) seen: u32,
+    // the words of its region that it has stored
+    pub(crate) used: u32,
     pub(crate) loader: bool,
     pub(crate) number: u8,
 }
 
 impl Model for Caller {
-    ghost use Rattle.std.specs.Prelude.{◌≡◌, []};
+    ghost use Rattle.std.specs.Prelude.{◌≡◌, [], length};
+    ghost use Rattle.board_core.specs.SeatRule.{WhoFits};
     ghost use Rattle.board.specs.Seated.{Seated, who_of};
 
     ghost Value = { Seated };
 
     ghost view = { λ c. record { table = c.seat.table_id; shape = c.seat.me.0.shape; account = c.seat.me.0.me } };
 
-    ghost invariant = { λ c. (c.seen ≡ c.seat.me.0.me.log.seen) × (c.seat.me.0.me.who ≡ who_of c.loader c.number) × (c.seat.me.0.kept ≡ []) × (c.seat.me.1 ≡ []) };
+    ghost invariant = { λ c. (c.seen ≡ c.seat.me.0.me.log.seen) × (c.seat.me.0.me.who ≡ who_of c.loader c.number) × (c.seat.me.0.kept ≡ []) × (c.seat.me.1 ≡ []) × (c.used ≡ length c.seat.me.0.me.room.used) × WhoFits c.seat.me.0.shape c.seat.me.0.me.who };
 }
 
 impl Caller {
@@ -65,6 +68,13 @@ impl Caller {
         ensures { result ≡ self.now.account.log.seen }
     {
         self.seen
+    }
+
+    /// How many words of its region it has stored. A searcher has none.
+    pub fn used(&self) -> u32
+        ensures value { result ≡ length self.now.account.room.used }
+    {
+        self.used
     }
 
     /// Whether it is a loader. The others are searchers.

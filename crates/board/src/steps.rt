@@ -4,7 +4,10 @@ ghost use Rattle.htss_defs.specs.declared.history.Event.{Event};
 ghost use Rattle.htss_defs.specs.declared.history.Event.TheVariants.{Withdraw};
 ghost use Rattle.board_core.specs.declared.entry.Entry.{Entry};
 ghost use Rattle.board_core.specs.declared.log.Holding.TheVariants.{Fronted};
+ghost use Rattle.board_core.specs.Accounts.{nothing};
 ghost use Rattle.board_core.specs.LogRule.{word_or_0};
+ghost use Rattle.board_core.specs.LogWord.{kind_in, target_in};
+ghost use Rattle.board_core.specs.Loaded.{IsInTable};
 ghost use Rattle.board_core.specs.Words.{log_at};
 ghost use Rattle.board_core.specs.Steps.{MayTake, MayFree, MayLog, AreTrue};
 ghost use Rattle.board_core.specs.After.{after_take, after_free, after_answer, after_front, after_shown, after_logged, after_event};
@@ -34,12 +37,13 @@ impl Shown for Brand {
     ghost event = { Withdraw 0 0 };
 }
 
-/// Takes the lock where it is free, and says whether it did.
+/// Takes the lock where it is free, and says whether it did. A caller without the lock has nothing pending.
 pub fn exchange_lock(board: &Board, caller: &mut Caller) -> bool
     requires fits { IsOf board.now caller.old }
     requires loader { IsLoader caller.old }
     requires may { MayTake caller.old.account }
-    ensures { MatchBool result (caller.new ≡ with_account caller.old (after_take caller.old.account)) (caller.new ≡ caller.old) }
+    ensures idle { caller.old.account.log.pending ≡ nothing }
+    ensures after { MatchBool result (caller.new ≡ with_account caller.old (after_take caller.old.account)) (caller.new ≡ caller.old) }
 {
     let own = caller.number as u64;
     board
@@ -84,12 +88,13 @@ pub fn load_front(board: &Board, caller: &mut Caller) -> u32
     caller.seen
 }
 
-/// Loads the log word of an event that the caller has seen.
+/// Loads the log word of an event that the caller has seen. The block that it publishes is in the table.
 pub fn load_log_word(board: &Board, caller: &mut Caller, number: u32) -> u64
     requires fits { IsOf board.now caller.old }
     requires number { (0 < number) × (number ≤ caller.old.account.log.seen) }
     requires room { number ≤ board.now.shape.log }
-    ensures { caller.new ≡ with_account caller.old (after_shown caller.old.account (log_at board.now.shape + (number - 1)) result) }
+    ensures after { caller.new ≡ with_account caller.old (after_shown caller.old.account (log_at board.now.shape + (number - 1)) result) }
+    ensures block { ¬ (kind_in result ≡ 2) → IsInTable board.now.shape (target_in result) }
 {
     let at = log_place(board.shape) + (number as usize - 1);
     board.table.shared.load::<LoadLogWord>(&mut caller.seat, at)

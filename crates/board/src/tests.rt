@@ -1,5 +1,4 @@
 ghost use Rattle.std.specs.Prelude.{◌≡◌, []};
-ghost use Rattle.board_core.specs.Accounts.{nothing};
 ghost use Rattle.board_core.specs.Steps.{MayTake};
 ghost use Rattle.board.specs.Seated.{IsOf, IsLoader};
 
@@ -78,7 +77,6 @@ fn take_and_free(board: &Board, caller: &mut Caller) -> Option<u32>
     requires fits { IsOf board.now caller.old }
     requires loader { IsLoader caller.old }
     requires may { MayTake caller.old.account }
-    requires idle { caller.old.account.log.pending ≡ nothing }
 {
     if !exchange_lock(board, caller) {
         return None;

@@ -23,6 +23,7 @@ pub answer : (k : Shape) (p : Parts) (vs : List View) (id : ℕ) (v : View) (es 
 answer k p vs id v es r at true_all = by_log k p p (history_of k p) (history_of k p) vs id v (after_answer v.me es) r at
     record { who = refl; pool_words = refl; page_words = refl; pool = refl; tree = refl; counts = refl }
     record { words = refl; front = refl; slots = refl; store = refl }
+    record { heads = refl; facts = refl; codes = refl; marks = refl }
     (log_same k p.log (history_of k p) vs id v (after_answer v.me es) r.log at refl)
     (answered_stories k p vs id v (after_answer v.me es) es r at true_all refl refl)
     (full_more k vs id v (after_answer v.me es) es r.full at true_all.rooms refl refl)

@@ -13,10 +13,13 @@ use Rattle.board_core.specs.declared.loads.Loads.{Loads}
 use Rattle.board_core.specs.Each.{Each}
 use Rattle.board_core.specs.Words.{Parts}
 use Rattle.board_core.specs.Histories.{history_of}
-use Rattle.board_core.specs.Accounts.{with_me}
+use Rattle.board_core.specs.Accounts.{with_me, EachAccount}
 use Rattle.board_core.specs.Truths.{IsTrueLog, IsTrueStory}
 use Rattle.board_core.specs.StoryRule.{StoryRule}
 use Rattle.board_core.specs.LoadRule.{LoadFits}
+use Rattle.board_core.specs.FactRule.{BlocksStand}
+use Rattle.board_core.proofs.RecordFrame.{known_records}
+use Rattle.board_core.proofs.MarkKnown.{known_marks}
 use Rattle.board_core.specs.Holds.{Rule}
 use Rattle.board_core.specs.After.{noted}
 use Rattle.board_core.specs.Steps.{Known, Agrees, AreTrue}
@@ -30,12 +33,19 @@ noted_true : (k : Shape) (h : List Event) (l : Loads) (es : List Entry) → Each
 noted_true k h l [] all = each_none (λ n. IsTrueLog k h n.entry)
 noted_true k h l (e ∷ es) all = each_cons (λ n. IsTrueLog k h n.entry) _ (noted l es) (all zero e refl) (noted_true k h l es (λ j. all (suc j)))
 
--- what the account knows agrees with the board
+-- what each account knows agrees with the board
+pub agree_all : (k : Shape) (p : Parts) (h : List Event) (vs : List View) → Rule k p h vs → EachAccount (Agrees k p) vs
+agree_all k p h vs r j u at i x there = record { seen = (r.log.hands j u at i x there).seen; shown = r.loads j u at i x there; blocks = r.facts.stand j u at i x there }
+
 pub agrees : (k : Shape) (p : Parts) (h : List Event) (vs : List View) (id : ℕ) (v : View) → Rule k p h vs → get_elem? vs id ≡ some v → Agrees k p v.me
-agrees k p h vs id v r at = record { seen = (hand_at k p.log h vs id v r.log at).seen; shown = mine (λ x. Each (LoadFits k p.log) x.loads.shown) vs id v at r.loads }
+agrees k p h vs id v r at = mine (Agrees k p) vs id v at (agree_all k p h vs r)
 
 pub known : (k : Shape) (p : Parts) (vs : List View) → Rule k p (history_of k p) vs → Known k p
-known k p vs r = record { front = r.log.front; legal = r.log.legal }
+known k p vs r = record {
+  front = r.log.front;
+  legal = r.log.legal;
+  blocks = record { records = known_records k p vs r.records r.rooms; marks = known_marks k p vs r.marks r.rooms };
+}
 
 -- a step that adds true entries, and changes nothing else that this part reads
 pub answered_stories : (k : Shape) (p : Parts) (vs : List View) (id : ℕ) (v : View) (a : Account) (es : List Entry) → Rule k p (history_of k p) vs → get_elem? vs id ≡ some v → AreTrue k v.me es

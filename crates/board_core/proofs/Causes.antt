@@ -24,7 +24,7 @@ pub loaded_event : (k : Shape) (p : Parts) (a : Account) (j i : ℕ) (l : ShownL
 loaded_event k p a j i l agrees there inside place = let stands = (agrees.shown j l there).log i inside place in subst (λ (w : ℕ). HasEvent (history_of k p) (i + 1) (event_of k p.regions w)) stands.1 (event_shown k p i stands.0)
 
 -- an event of the first events is one of all
-event_of_first : (h : List Event) (front number : ℕ) (e : Event) → front ≤ length h → HasEvent (take front h) number e → HasEvent h number e × (number ≤ front)
+pub event_of_first : (h : List Event) (front number : ℕ) (e : Event) → front ≤ length h → HasEvent (take front h) number e → HasEvent h number e × (number ≤ front)
 event_of_first h front number e few has =
     let within : number - 1 < front = omega (arith, slice_get_within (take front h) (number - 1) e has.1, length-take-le front h few) in (
       (has.0, slice_get-get_or h (number - 1) e (omega (arith, within, few)) ∙ ap (λ (y : Event). Some y) (sym (get_or-take front h (number - 1) e within) ∙ get_or_from_slice_get (take front h) (number - 1) e e has.1)),

@@ -49,6 +49,7 @@ pub free : (k : Shape) (p : Parts) (vs : List View) (id : ℕ) (v : View) (es : 
 free k p vs id v es r at may true_all = by_log k p (record p { log = record p.log { lock = 0 } }) (history_of k p) (history_of k p) vs id v (after_free v.me es) r at
     record { who = refl; pool_words = refl; page_words = refl; pool = refl; tree = refl; counts = refl }
     record { words = refl; front = refl; slots = refl; store = refl }
+    record { heads = refl; facts = refl; codes = refl; marks = refl }
     (free_log k p.log (history_of k p) vs id v es r.log at may)
     (answered_stories k p vs id v (after_free v.me es) es r at true_all refl refl)
     (full_more k vs id v (after_free v.me es) es r.full at true_all.rooms refl refl)

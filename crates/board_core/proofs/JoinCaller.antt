@@ -21,6 +21,9 @@ use Rattle.board_core.proofs.RoomFrame.{none_fits}
 use Rattle.board_core.proofs.Some.{some_gathered}
 use Rattle.board_core.specs.Truths.{IsTrueRoom}
 use Rattle.std.proofs.Common.{◌-◌, length}
+use Rattle.board_core.proofs.MarkSeats.{marks_gather}
+use Rattle.board_core.proofs.RecordFrame.{records_gather}
+use Rattle.board_core.proofs.FactFrame.{facts_gather}
 use Rattle.board_core.specs.Holds.{Rule, Holds}
 use Rattle.board_core.proofs.Lists.{each_none, each_kept}
 use Rattle.board_core.proofs.Everyone.{each_gathered, total_gathered}
@@ -61,6 +64,9 @@ gather k p h vs id other v w r at apart there =
         rooms = each_gathered (λ x. RoomFits k p.regions (store_of x)) vs id other v w at there (none_fits k p.regions Gone) r.rooms.rooms;
         named = λ i behind kind. some_gathered (ShowsSealed (p.log.slots i)) vs id other v w at apart there (r.rooms.named i behind kind);
       };
+      marks = marks_gather k p vs id other v w r.marks at apart there;
+      records = records_gather k vs id other v w r.records at there;
+      facts = facts_gather k p.regions p.log.front vs id other v w r.facts at apart there;
       loads = each_gathered (λ x. Each (LoadFits k p.log) x.loads.shown) vs id other v w at there (each_none (LoadFits k p.log)) r.loads;
     }
 

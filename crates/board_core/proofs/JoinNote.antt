@@ -24,6 +24,9 @@ use Rattle.board_core.proofs.Some.{some_left}
 use Rattle.board_core.proofs.FullFrame.{full_same}
 use Rattle.board_core.specs.Truths.{IsTrueRoom}
 use Rattle.std.proofs.Common.{◌-◌, length}
+use Rattle.board_core.proofs.MarkSeats.{marks_hear}
+use Rattle.board_core.proofs.RecordFrame.{records_note_goes}
+use Rattle.board_core.proofs.FactFrame.{facts_note_goes}
 use Rattle.board_core.specs.Holds.{Rule, Holds}
 use Rattle.board_core.specs.After.{after_hear}
 use Rattle.board_core.proofs.Lists.{each_none, each_kept}
@@ -84,6 +87,9 @@ note_goes k p h vs other front w r there is =
         rooms = each_left (λ x. RoomFits k p.regions (store_of x)) vs other (none_fits k p.regions Gone) r.rooms.rooms;
         named = λ i behind kind. some_left (ShowsSealed (p.log.slots i)) vs other w there (λ t. no_note (p.log.slots i) front w is t) (r.rooms.named i behind kind);
       };
+      marks = marks_hear k p vs other front w r.marks there is;
+      records = records_note_goes k vs other r.records;
+      facts = facts_note_goes k p.regions p.log.front vs other front w r.facts there is;
     }
 
 -- ---- the hearer's front
@@ -111,6 +117,7 @@ pub hear : (k : Shape) (p : Parts) (h : List Event) (vs : List View) (id front :
 hear k p h vs id front v r at seen = by_log k p p h h vs id v (after_hear v.me front) r at
     record { who = refl; pool_words = refl; page_words = refl; pool = refl; tree = refl; counts = refl }
     record { words = refl; front = refl; slots = refl; store = refl }
+    record { heads = refl; facts = refl; codes = refl; marks = refl }
     (hear_log k p.log h vs id front v r.log at seen)
     (stories_same k h vs id v (after_hear v.me front) r.stories at refl refl)
     (full_same k vs id v (after_hear v.me front) r.full at refl refl)

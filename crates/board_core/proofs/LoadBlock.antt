@@ -1,6 +1,6 @@
--- A word of a block is loaded: its first word or a mark, a code word, or a name, atom or bond word. What such a load tells comes with
--- the parts that speak of blocks that were loaded.
-use Rattle.std.proofs.Common.{◌≡◌, ℕ, ◌+◌, ◌<◌, ◌≤◌, List, set, get_or, refl, arith}
+-- A word of a block is loaded: its first word, a mark, a code word, or a name, atom or bond word. The block is one that a log word
+-- shows which the caller has loaded.
+use Rattle.std.proofs.Common.{◌≡◌, ◌≢◌, ℕ, ◌+◌, ◌-◌, ◌<◌, ◌≤◌, inr, List, set, get_or, refl, sym, ap, ◌∙◌, subst, arith}
 use mathlib.Core.Option.{some, none}
 use lib.ListN.{get_elem?}
 use Rattle.atomic_table.specs.Table.{step, keeps, Allows}
@@ -8,78 +8,151 @@ use Rattle.htss_defs.specs.declared.shape.Shape.{Shape}
 use Rattle.htss_defs.specs.declared.history.Event.{Event}
 use Rattle.board_core.specs.declared.account.Account.{Account}
 use Rattle.board_core.specs.declared.account.View.{View}
+use Rattle.board_core.specs.declared.account.Who.TheVariants.{Gone}
 use Rattle.board_core.specs.declared.loads.Loads.{Loads}
-use Rattle.board_core.specs.Each.{Each}
-use Rattle.board_core.specs.Words.{Parts, parts_of, log_at, regions_at}
-use Rattle.board_core.specs.Histories.{history_of}
+use Rattle.board_core.specs.declared.room.Row.{Row}
+use Rattle.board_core.specs.Words.{Parts, parts_of, regions_at, regions_size, total_of}
+use Rattle.board_core.specs.Blocks.{atoms_in, block_size, ended_at}
+use Rattle.board_core.specs.Records.{code_word_at}
+use Rattle.board_core.specs.Histories.{block_at, history_of}
 use Rattle.board_core.specs.Accounts.{with_me}
-use Rattle.board_core.specs.LoadRule.{LoadFits}
-use Rattle.board_core.proofs.FullFrame.{full_same}
+use Rattle.board_core.specs.FactRule.{FactRule, word_at}
+use Rattle.board_core.specs.Loaded.{KnowsBlock, KnowsHead}
 use Rattle.board_core.specs.Holds.{Rule, Holds}
-use Rattle.board_core.specs.After.{after_shown}
-use Rattle.board_core.specs.Steps.{Mine, LoadsShown}
-use Rattle.board_core.proofs.Lists.{each_snoc}
-use Rattle.board_core.proofs.Everyone.{mine, changed}
+use Rattle.board_core.specs.After.{after_code, after_fact, after_head, after_mark}
+use Rattle.board_core.specs.Steps.{Mine, MayBeSome, LoadsHead, LoadsMark, LoadsCode, LoadsFact}
+use Rattle.atomic_table.proofs.Lists.{set_here}
+use Rattle.board_core.proofs.Answered.{known, agrees}
+use Rattle.board_core.proofs.Lists.{inside}
+use Rattle.board_core.proofs.FullFrame.{full_same}
 use Rattle.board_core.proofs.LogFrame.{log_same, hand_at}
 use Rattle.board_core.proofs.StoryFrame.{stories_same}
 use Rattle.board_core.proofs.LoadFrame.{loads_same, not_later}
-use Rattle.board_core.specs.declared.room.Row.{Row}
-use Rattle.board_core.specs.After.{after_code, after_fact}
-use Rattle.board_core.specs.Steps.{LoadsCode, LoadsFact}
-use Rattle.board_core.proofs.Stepped.{by_log, still}
+use Rattle.board_core.proofs.RecordFrame.{code_within}
+use Rattle.board_core.proofs.LoadSealed.{known_in_table, head_is, facts_head, facts_mark, facts_fact, facts_code}
+use Rattle.board_core.proofs.Stored.{part_at}
+use Rattle.board_core.proofs.Stepped.{by_load, still}
 
--- it is no log word
-past_log : (k : Shape) (place i : ℕ) → regions_at k ≤ place → i < k.log → place ≡ log_at k + i → ⊥
-past_log k place i past inside e = omega arith
-
-pub load_block : (k : Shape) (p : Parts) (h : List Event) (vs : List View) (id place word : ℕ) (v : View) → Rule k p h vs → get_elem? vs id ≡ some v → regions_at k ≤ place → Rule k p h (set vs id (with_me v (after_shown v.me place word)))
-load_block k p h vs id place word v r at past =
-    let a : Account = after_shown v.me place word in by_log k p p h h vs id v a r at
-    record { who = refl; pool_words = refl; page_words = refl; pool = refl; tree = refl; counts = refl }
-    record { words = refl; front = refl; slots = refl; store = refl }
-    (log_same k p.log h vs id v a r.log at refl)
-    (stories_same k h vs id v a r.stories at refl refl)
-    (full_same k vs id v a r.full at refl refl)
-    (changed (λ x. Each (LoadFits k p.log) x.loads.shown) vs id v a at
-    (each_snoc (LoadFits k p.log) v.me.loads.shown record { place = place; word = word; front = v.me.log.seen }
-    record { seen = (hand_at k p.log h vs id v r.log at).seen; log = λ i inside e. absurd (past_log k place i past inside e) }
-    (mine (λ x. Each (LoadFits k p.log) x.loads.shown) vs id v at r.loads))
-    r.loads)
-
-pub block_allowed : (k : Shape) (slots id place : ℕ) (m : Mine) → regions_at k ≤ place → Allows (Holds k) slots id m place (λ n. n) (LoadsShown (step slots place 0 0 none) m)
-block_allowed k slots id place m past s h _ at _ = let p : Parts = parts_of k s.words in let found : ℕ = get_or s.words place 0 in (
-  with_me m.0 (after_shown m.0.me place found),
-  keeps,
-  tt,
-  still k s place id m.1 m.0 (after_shown m.0.me place found) h (load_block k p (history_of k p) s.views id place found m.0 h.rule at past),
-  refl,
-)
-
--- a load that no part reads
-load_else : (k : Shape) (p : Parts) (h : List Event) (vs : List View) (id : ℕ) (v : View) (l : Loads) → Rule k p h vs → get_elem? vs id ≡ some v → l.shown ≡ v.me.loads.shown → Rule k p h (set vs id (with_me v (record v.me { loads = l })))
-load_else k p h vs id v l r at same =
-    let a : Account = record v.me { loads = l } in by_log k p p h h vs id v a r at
+-- a load that no part reads but that of what was loaded of blocks
+load_of_block : (k : Shape) (p : Parts) (h : List Event) (vs : List View) (id : ℕ) (v : View) (l : Loads) → Rule k p h vs → get_elem? vs id ≡ some v → l.shown ≡ v.me.loads.shown → FactRule k p.regions p.log.front (set vs id (with_me v (record v.me { loads = l })))
+    → Rule k p h (set vs id (with_me v (record v.me { loads = l })))
+load_of_block k p h vs id v l r at same facts =
+    let a : Account = record v.me { loads = l } in by_load k p p h h vs id v a r at
     record { who = refl; pool_words = refl; page_words = refl; pool = refl; tree = refl; counts = refl }
     record { words = refl; front = refl; slots = refl; store = refl }
     (log_same k p.log h vs id v a r.log at refl)
     (stories_same k h vs id v a r.stories at refl refl)
     (full_same k vs id v a r.full at refl refl)
     (loads_same k p.log p.log vs id v a r.loads at (not_later p.log p.log refl refl) same)
+    facts
 
-pub code_allowed : (k : Shape) (slots id place code : ℕ) (row : Row) (m : Mine) → Allows (Holds k) slots id m place (λ n. n) (LoadsCode row code (step slots place 0 0 none) m)
-code_allowed k slots id place code row m s h _ at _ = let p : Parts = parts_of k s.words in let found : ℕ = get_or s.words place 0 in let a : Account = after_code m.0.me row code found in (
-  with_me m.0 a,
-  keeps,
-  tt,
-  still k s place id m.1 m.0 a h (load_else k p (history_of k p) s.views id m.0 a.loads h.rule at refl),
-  refl,
-)
+-- the board after the step is one that may be, by what the account has then loaded
+some_board : (k key : Shape) (p : Parts) (vs : List View) (id : ℕ) (v : View) (a : Account) → key ≡ k → get_elem? vs id ≡ some v → Rule k p (history_of k p) (set vs id (with_me v a)) → MayBeSome key a
+some_board k key p vs id v a shape at r = subst (λ (z : Shape). MayBeSome z a) (sym shape)
+    (p, record { known = known k p (set vs id (with_me v a)) r; agrees = agrees k p (history_of k p) (set vs id (with_me v a)) id (with_me v a) r (set_here vs id (with_me v a) (inside vs id v at)) })
 
-pub fact_allowed : (k : Shape) (slots id place : ℕ) (m : Mine) → Allows (Holds k) slots id m place (λ n. n) (LoadsFact (step slots place 0 0 none) m)
-fact_allowed k slots id place m s h _ at _ = let p : Parts = parts_of k s.words in let found : ℕ = get_or s.words place 0 in let a : Account = after_fact m.0.me place found in (
-  with_me m.0 a,
-  keeps,
-  tt,
-  still k s place id m.1 m.0 a h (load_else k p (history_of k p) s.views id m.0 a.loads h.rule at refl),
-  refl,
-)
+-- the word of the table at a place of the regions
+found_at : (k : Shape) (ws : List ℕ) (place : ℕ) → regions_at k ≤ place → place < total_of k → word_at k (parts_of k ws).regions place ≡ get_or ws place 0
+found_at k ws place from until =
+    let i : ℕ = place - regions_at k in
+    let within : place < regions_at k + regions_size k = until in
+    let inside : i < regions_size k = less place (regions_at k) (regions_size k) from within in
+    let back : regions_at k + i ≡ place = again place (regions_at k) from in
+    part_at (regions_at k) (regions_size k) ws i inside ∙ ap (λ (z : ℕ). get_or ws z 0) back
+  where
+    less : (at from size : ℕ) → from ≤ at → at < from + size → at - from < size
+    less at from size a b = omega arith
+
+    again : (at from : ℕ) → from ≤ at → from + (at - from) ≡ at
+    again at from a = omega arith
+
+-- ---- the first word, and the last mark
+
+pub head_allowed : (k : Shape) (slots id block : ℕ) (m : Mine) → KnowsBlock k m.0.me block → m.0.me.who ≢ Gone → Allows (Holds k) slots id m block (λ n. n) (LoadsHead (step slots block 0 0 none) m)
+head_allowed k slots id block m knows here s h _ at _ =
+    let p : Parts = parts_of k s.words in
+    let found : ℕ = get_or s.words block 0 in
+    let fits = known_in_table k p.regions p.log s.views id block m.0 h.rule.seats h.rule.loads h.rule.rooms at knows in
+    let from = fits.0.from in
+    let until = fits.0.until in
+    let same : block_at k p.regions block 0 ≡ found = ap (λ (z : ℕ). p.regions (z - regions_at k)) (first block) ∙ found_at k s.words block from (omega arith) in
+    let facts = facts_head k p.regions p.log s.views id block m.0 h.rule.facts h.rule.loads h.rule.rooms at knows in
+    let a : Account = after_head m.0.me block found in
+    let shape = h.rule.seats.shapes id m.0 at here in
+    let next : Rule k p (history_of k p) (set s.views id (with_me m.0 a)) =
+    load_of_block k p (history_of k p) s.views id m.0 a.loads h.rule at refl (subst (λ (w : ℕ). FactRule k p.regions p.log.front (set s.views id (with_me m.0 (after_head m.0.me block w)))) same facts) in (
+      with_me m.0 a,
+      keeps,
+      tt,
+      still k s block id m.1 m.0 a h next,
+      record { after = refl; may = some_board k m.0.shape p s.views id m.0 a shape at next; until = subst (λ (x : ℕ × Shape). block + block_size x.0 ≤ total_of x.1) (λ t. (same t, sym (h.rule.seats.shapes id m.0 at here) t)) fits.1 },
+    )
+  where
+    first : (block : ℕ) → block + 0 ≡ block
+    first block = omega arith
+
+pub mark_allowed : (k : Shape) (slots id place block : ℕ) (m : Mine) → place ≡ block + ended_at → KnowsBlock k m.0.me block → Allows (Holds k) slots id m place (λ n. n) (LoadsMark (step slots place 0 0 none) m)
+mark_allowed k slots id place block m is knows s h _ at _ =
+    let p : Parts = parts_of k s.words in
+    let found : ℕ = get_or s.words place 0 in
+    let fits = known_in_table k p.regions p.log s.views id block m.0 h.rule.seats h.rule.loads h.rule.rooms at knows in
+    let from = fits.0.from in
+    let until = fits.0.until in
+    let same : word_at k p.regions place ≡ found = found_at k s.words place (omega arith) (omega arith) in
+    let seen = (hand_at k p.log (history_of k p) s.views id m.0 h.rule.log at).seen in
+    let facts = facts_mark k p.regions p.log s.views id block place m.0 h.rule.facts h.rule.loads h.rule.rooms at knows seen (inr is) in
+    let a : Account = after_mark m.0.me place found in (
+      with_me m.0 a,
+      keeps,
+      tt,
+      still k s place id m.1 m.0 a h (load_of_block k p (history_of k p) s.views id m.0 a.loads h.rule at refl (subst (λ (w : ℕ). FactRule k p.regions p.log.front (set s.views id (with_me m.0 (after_mark m.0.me place w)))) same facts)),
+      refl,
+    )
+
+-- ---- the other words
+
+pub fact_allowed : (k : Shape) (slots id place block head i : ℕ) (m : Mine) → place ≡ block + i → KnowsHead k m.0.me block head → 3 ≤ i → i < block_size head → m.0.me.who ≢ Gone → Allows (Holds k) slots id m place (λ n. n) (LoadsFact (step slots place 0 0 none) m)
+fact_allowed k slots id place block head i m is knows past inside_block here s h _ at _ =
+    let p : Parts = parts_of k s.words in
+    let found : ℕ = get_or s.words place 0 in
+    let fits = known_in_table k p.regions p.log s.views id block m.0 h.rule.seats h.rule.loads h.rule.rooms at knows.known in
+    let from = fits.0.from in
+    let is_head = head_is k p.regions p.log.front s.views id block head m.0 h.rule.facts at knows in
+    let until : block + block_size head ≤ total_of k = subst (λ (w : ℕ). block + block_size w ≤ total_of k) is_head fits.1 in
+    let same : word_at k p.regions place ≡ found = found_at k s.words place (omega arith) (omega arith) in
+    let facts = facts_fact k p.regions p.log s.views id block head i m.0 h.rule.facts h.rule.loads h.rule.rooms at knows inside_block (λ e. omega arith) (λ e. omega arith) in
+    let a : Account = after_fact m.0.me place found in
+    let next : Rule k p (history_of k p) (set s.views id (with_me m.0 a)) =
+    load_of_block k p (history_of k p) s.views id m.0 a.loads h.rule at refl
+    (subst (λ (w : ℕ). FactRule k p.regions p.log.front (set s.views id (with_me m.0 (after_fact m.0.me place w)))) same
+    (subst (λ (z : ℕ). FactRule k p.regions p.log.front (set s.views id (with_me m.0 (after_fact m.0.me z (word_at k p.regions z))))) (sym is) facts)) in (
+      with_me m.0 a,
+      keeps,
+      tt,
+      still k s place id m.1 m.0 a h next,
+      record { after = refl; may = some_board k m.0.shape p s.views id m.0 a (h.rule.seats.shapes id m.0 at here) at next },
+    )
+
+pub code_allowed : (k : Shape) (slots id place head code : ℕ) (row : Row) (m : Mine) → place ≡ row.block + code_word_at head (row.atom - 1) code → KnowsHead k m.0.me row.block head → 0 < row.atom → row.atom ≤ atoms_in head → code < 5 → m.0.me.who ≢ Gone
+    → Allows (Holds k) slots id m place (λ n. n) (LoadsCode row code (step slots place 0 0 none) m)
+code_allowed k slots id place head code row m is knows above atom few here s h _ at _ =
+    let p : Parts = parts_of k s.words in
+    let found : ℕ = get_or s.words place 0 in
+    let fits = known_in_table k p.regions p.log s.views id row.block m.0 h.rule.seats h.rule.loads h.rule.rooms at knows.known in
+    let from = fits.0.from in
+    let is_head = head_is k p.regions p.log.front s.views id row.block head m.0 h.rule.facts at knows in
+    let until : row.block + block_size head ≤ total_of k = subst (λ (w : ℕ). row.block + block_size w ≤ total_of k) is_head fits.1 in
+    let within = (code_within head (row.atom - 1) code (omega arith) few).1 in
+    let same : word_at k p.regions place ≡ found = found_at k s.words place (omega arith) (omega arith) in
+    let there : block_at k p.regions row.block (code_word_at head (row.atom - 1) code) ≡ word_at k p.regions place = ap (word_at k p.regions) (sym is) in
+    let facts = facts_code k p.regions p.log s.views id head code row m.0 h.rule.facts h.rule.loads h.rule.rooms at knows above atom few in
+    let a : Account = after_code m.0.me row code found in
+    let next : Rule k p (history_of k p) (set s.views id (with_me m.0 a)) =
+    load_of_block k p (history_of k p) s.views id m.0 a.loads h.rule at refl
+    (subst (λ (w : ℕ). FactRule k p.regions p.log.front (set s.views id (with_me m.0 (after_code m.0.me row code w)))) (there ∙ same) facts) in (
+      with_me m.0 a,
+      keeps,
+      tt,
+      still k s place id m.1 m.0 a h next,
+      record { after = refl; may = some_board k m.0.shape p s.views id m.0 a (h.rule.seats.shapes id m.0 at here) at next },
+    )

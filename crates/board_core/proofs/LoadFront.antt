@@ -50,6 +50,7 @@ pub load_front : (k : Shape) (p : Parts) (h : List Event) (vs : List View) (id :
 load_front k p h vs id v r at = by_log k p p h h vs id v (after_front v.me p.log.front) r at
     record { who = refl; pool_words = refl; page_words = refl; pool = refl; tree = refl; counts = refl }
     record { words = refl; front = refl; slots = refl; store = refl }
+    record { heads = refl; facts = refl; codes = refl; marks = refl }
     (front_log k p.log h vs id v r.log at)
     (stories_same k h vs id v (after_front v.me p.log.front) r.stories at refl refl)
     (full_same k vs id v (after_front v.me p.log.front) r.full at refl refl)

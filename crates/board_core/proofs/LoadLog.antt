@@ -1,5 +1,5 @@
 -- A log word is loaded, behind the front that was seen.
-use Rattle.std.proofs.Common.{◌≡◌, ℕ, ◌+◌, ◌<◌, List, set, get_or, sym, refl, ap, ◌∙◌, subst, arith}
+use Rattle.std.proofs.Common.{◌≡◌, ◌≢◌, ℕ, ◌+◌, ◌<◌, List, set, get_or, sym, refl, ap, ◌∙◌, subst, arith}
 use mathlib.Core.Option.{some, none}
 use lib.ListN.{get_elem?}
 use Rattle.atomic_table.specs.Table.{step, keeps, Allows}
@@ -15,12 +15,16 @@ use Rattle.board_core.specs.LoadRule.{LoadFits}
 use Rattle.board_core.proofs.FullFrame.{full_same}
 use Rattle.board_core.specs.Holds.{Rule, Holds}
 use Rattle.board_core.specs.After.{after_shown}
-use Rattle.board_core.specs.Steps.{Mine, LoadsShown}
+use Rattle.board_core.specs.declared.account.Who.TheVariants.{Gone}
+use Rattle.board_core.specs.LogWord.{kind_in, target_in}
+use Rattle.board_core.specs.Loaded.{IsInTable}
+use Rattle.board_core.specs.Steps.{Mine, LoadsLog}
+use Rattle.board_core.proofs.LoadSealed.{sealed_in_table}
 use Rattle.board_core.proofs.Lists.{each_snoc}
 use Rattle.board_core.proofs.Everyone.{mine, changed}
 use Rattle.board_core.proofs.LogFrame.{log_same, hand_at}
 use Rattle.board_core.proofs.StoryFrame.{stories_same}
-use Rattle.board_core.proofs.Stepped.{by_log, still}
+use Rattle.board_core.proofs.Stepped.{St, by_log, still}
 use Rattle.board_core.proofs.Stored.{part_at}
 
 same_place : (base i j place : ℕ) → place ≡ base + i → place ≡ base + j → i ≡ j
@@ -32,6 +36,7 @@ load_log k p h vs id i v r at behind =
     let seen = (hand_at k p.log h vs id v r.log at).seen in by_log k p p h h vs id v a r at
     record { who = refl; pool_words = refl; page_words = refl; pool = refl; tree = refl; counts = refl }
     record { words = refl; front = refl; slots = refl; store = refl }
+    record { heads = refl; facts = refl; codes = refl; marks = refl }
     (log_same k p.log h vs id v a r.log at refl)
     (stories_same k h vs id v a r.stories at refl refl)
     (full_same k vs id v a r.full at refl refl)
@@ -41,8 +46,16 @@ load_log k p h vs id i v r at behind =
     (mine (λ x. Each (LoadFits k p.log) x.loads.shown) vs id v at r.loads))
     r.loads)
 
-pub log_allowed : (k : Shape) (slots id place i : ℕ) (m : Mine) → place ≡ log_at k + i → i < m.0.me.log.seen → Allows (Holds k) slots id m place (λ n. n) (LoadsShown (step slots place 0 0 none) m)
-log_allowed k slots id place i m is behind s h _ at _ =
+-- the block that it publishes is in the table
+log_block : (k : Shape) (s : St) (id i found : ℕ) (m : Mine) → Holds k s → get_elem? s.views id ≡ some m.0 → m.0.me.who ≢ Gone → i < (parts_of k s.words).log.front → (parts_of k s.words).log.slots i ≡ found → ¬ (kind_in found ≡ 2) → IsInTable m.0.shape (target_in found)
+log_block k s id i found m h at here behind same kind =
+    let p : Parts = parts_of k s.words in
+    let (j, u, there, spot, b, its, shown) = h.rule.rooms.named i behind (subst (λ (w : ℕ). ¬ (kind_in w ≡ 2)) (sym same) kind) in
+    let fits = sealed_in_table k p.regions s.views (target_in (p.log.slots i)) h.rule.seats h.rule.rooms.rooms (j, u, there, spot, b, its, shown.1) in
+    subst (λ (x : Shape × ℕ). IsInTable x.0 (target_in x.1)) (λ t. (sym (h.rule.seats.shapes id m.0 at here) t, same t)) fits.0
+
+pub log_allowed : (k : Shape) (slots id place i : ℕ) (m : Mine) → place ≡ log_at k + i → i < m.0.me.log.seen → m.0.me.who ≢ Gone → Allows (Holds k) slots id m place (λ n. n) (LoadsLog (step slots place 0 0 none) m)
+log_allowed k slots id place i m is behind here s h _ at _ =
     let p : Parts = parts_of k s.words in
     let found : ℕ = get_or s.words place 0 in
     let seen = (hand_at k p.log (history_of k p) s.views id m.0 h.rule.log at).seen in
@@ -53,5 +66,5 @@ log_allowed k slots id place i m is behind s h _ at _ =
       tt,
       still k s place id m.1 m.0 (after_shown m.0.me place found) h
           (subst (λ (x : ℕ × ℕ). Rule k p (history_of k p) (set s.views id (with_me m.0 (after_shown m.0.me x.0 x.1)))) (λ t. (sym is t, same t)) (load_log k p (history_of k p) s.views id i m.0 h.rule at behind)),
-      refl,
+      record { after = refl; block = λ kind. log_block k s id i found m h at here (omega arith) same kind },
     )

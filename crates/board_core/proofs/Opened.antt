@@ -15,6 +15,9 @@ use Rattle.board_core.specs.RoomRule.{store_of, RoomFits}
 use Rattle.board_core.proofs.RoomFrame.{none_fits}
 use Rattle.board_core.specs.Truths.{IsTrueRoom}
 use Rattle.std.proofs.Common.{◌-◌, length}
+use Rattle.board_core.proofs.MarkSeats.{marks_open}
+use Rattle.board_core.proofs.RecordFrame.{records_open}
+use Rattle.board_core.proofs.FactFrame.{facts_open}
 use Rattle.board_core.specs.Holds.{Rule, Holds}
 use Rattle.board_core.proofs.Lists.{each_none, each_cons}
 use Rattle.board_core.proofs.LogFrame.{quiet_fits, taken_none}
@@ -126,6 +129,9 @@ open_rule k p front lock slots = record {
     rooms = only (λ x. RoomFits k p.regions (store_of x)) k (account (Opener 0) 0) (none_fits k p.regions (Opener 0));
     named = λ i behind kind. absurd (omega arith);
   };
+  marks = marks_open k p;
+  records = records_open k;
+  facts = facts_open k p.regions p.log.front;
   loads = only (λ x. Each (LoadFits k p.log) x.loads.shown) k (account (Opener 0) 0) (each_none (LoadFits k p.log));
 }
 

@@ -39,6 +39,9 @@ use Rattle.board_core.proofs.Everyone.{mine, changed, at_most, moved, total_chan
 use Rattle.board_core.proofs.LogFrame.{none_some, hand_at, quiet_fits, free_fits, owner, others_free}
 use Rattle.board_core.proofs.StoryFrame.{before_same, told_in-append, true_more, story_later}
 use Rattle.board_core.proofs.LoadFrame.{loads_same}
+use Rattle.board_core.proofs.MarkShow.{shown_marks}
+use Rattle.board_core.proofs.RecordFrame.{records_same}
+use Rattle.board_core.proofs.FactFrame.{facts_same}
 use Rattle.board_core.proofs.Stepped.{by_region, words_moved}
 use Rattle.board_core.specs.Accounts.{nothing, is_seat}
 use Rattle.htss_defs.specs.declared.history.Event.TheVariants.{Publish, Withdraw}
@@ -142,6 +145,14 @@ published_used : (o : Option ℕ) (r : RoomAccount) → length (with_published o
 published_used (Some block) r = refl
 published_used None r = refl
 
+kept_used : (o : Option ℕ) (r : RoomAccount) → (with_published o r).used ≡ r.used
+kept_used (Some block) r = refl
+kept_used None r = refl
+
+kept_sealed : (o : Option ℕ) (r : RoomAccount) → (with_published o r).sealed ≡ r.sealed
+kept_sealed (Some block) r = refl
+kept_sealed None r = refl
+
 published_sealed : (o : Option ℕ) (r : RoomAccount) (place : ℕ) → IsSealed r.sealed place → IsSealed (with_published o r).sealed place
 published_sealed (Some block) r place t = t
 published_sealed None r place t = t
@@ -182,6 +193,9 @@ show_event k p vs id word v e r at may is =
     (full_more k vs id v (after_event v.me e) (entry_of (v.me.log.seen + 1) e ∷ []) r.full at (event_room (k.room - length v.me.room.used) (v.me.log.seen + 1) e) (published_used v.me.log.pending.shows v.me.room) refl)
     (loads_same k p.log u vs id v (after_event v.me e) r.loads at record { front = omega arith; slots = λ i _. refl } refl)
     (shown_rooms k p.regions p.log.front p.log.slots vs id word v e r.rooms at may.logged next.there (own.0 ∙ ap (λ z. Loader z) (sym next.own)))
+    (shown_marks k p vs id word v e r.marks r.seats r.log r.rooms at may)
+    (records_same k vs id v (after_event v.me e) r.records at refl (kept_used v.me.log.pending.shows v.me.room) (kept_sealed v.me.log.pending.shows v.me.room))
+    (facts_same k p.regions p.log.front (p.log.front + 1) vs id v (after_event v.me e) r.facts at (kept_sealed v.me.log.pending.shows v.me.room) record { heads = refl; facts = refl; codes = refl; marks = refl } (omega arith))
 
 pub show_allowed : (k : Shape) (slots id n word : ℕ) (m : Mine) (e : Event) → n ≡ m.0.me.log.seen + 1 → MayShowEvent m.0.me word → event_by k m.0.me word ≡ e → Allows (Holds k) slots id m 0 (λ _. n) (λ _. ShowsEvent e (step slots 0 n 0 none) m n)
 show_allowed k slots id n word m e is may knows s h _ at _ =

@@ -27,6 +27,9 @@ use Rattle.board_core.proofs.RoomFrame.{none_fits}
 use Rattle.board_core.proofs.Some.{some_changed, some_more}
 use Rattle.board_core.specs.Truths.{IsTrueRoom}
 use Rattle.std.proofs.Common.{◌-◌, length}
+use Rattle.board_core.proofs.MarkSeats.{marks_caller}
+use Rattle.board_core.proofs.RecordFrame.{records_caller}
+use Rattle.board_core.proofs.FactFrame.{facts_caller}
 use Rattle.board_core.specs.Holds.{Rule, Holds}
 use Rattle.board_core.proofs.Lists.{each_none, each_kept, each_snoc}
 use Rattle.board_core.proofs.Everyone.{mine, changed, total_changed, each_more, total_more}
@@ -140,6 +143,9 @@ caller k p h vs id m v r at is shape room = record {
   full = each_more (λ x. Each (λ e. IsTrueRoom (k.room - length x.room.used) e.entry) x.entries) (set vs id (left_of v)) (account (caller_after k m) 0) (right_of k m) refl refl (each_none (λ e. IsTrueRoom (k.room - length {A = ℕ} []) e.entry))
       (changed (λ x. Each (λ e. IsTrueRoom (k.room - length x.room.used) e.entry) x.entries) vs id v (after_made v.me) at (mine (λ x. Each (λ e. IsTrueRoom (k.room - length x.room.used) e.entry) x.entries) vs id v at r.full) r.full);
   rooms = caller_rooms k p.regions p.log.front p.log.slots vs id m v r.rooms at is;
+  marks = marks_caller k p vs id m v r.marks at;
+  records = records_caller k vs id m v r.records at is;
+  facts = facts_caller k p.regions p.log.front vs id m v r.facts at;
 }
 
 not_gone : {m : ℕ} → Opener m ≡ Gone → ⊥

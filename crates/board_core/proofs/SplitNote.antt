@@ -24,6 +24,9 @@ use Rattle.board_core.proofs.RoomFrame.{none_fits}
 use Rattle.board_core.proofs.Some.{some_more}
 use Rattle.board_core.specs.Truths.{IsTrueRoom}
 use Rattle.std.proofs.Common.{◌-◌, length}
+use Rattle.board_core.proofs.MarkSeats.{marks_note}
+use Rattle.board_core.proofs.RecordFrame.{records_note}
+use Rattle.board_core.proofs.FactFrame.{facts_note}
 use Rattle.board_core.specs.Holds.{Rule, Holds}
 use Rattle.board_core.proofs.Lists.{each_none, each_snoc}
 use Rattle.board_core.proofs.Everyone.{each_more, total_more}
@@ -79,6 +82,9 @@ note k p h vs id v r at here =
         rooms = each_more (λ x. RoomFits k p.regions (store_of x)) vs (account Note front) n refl refl (none_fits k p.regions Note) r.rooms.rooms;
         named = λ i behind kind. some_more (ShowsSealed (p.log.slots i)) vs n (r.rooms.named i behind kind);
       };
+      marks = marks_note k p vs v r.marks;
+      records = records_note k vs v.shape front r.records;
+      facts = facts_note k p.regions p.log.front vs v.shape front r.facts;
     }
 
 pub note_splits : (k : Shape) (id : ℕ) (v : View) → v.me.who ≢ Gone → Splits (Holds k) id v v (view v.shape (account Note v.me.log.seen))

@@ -1,5 +1,5 @@
 -- What all steps of the log owe the table: the parts of the rule that they leave alone, and the whole from its parts.
-use Rattle.std.proofs.Common.{◌≡◌, ℕ, List, set, get_or, sym, ◌∙◌, subst, length-set}
+use Rattle.std.proofs.Common.{◌≡◌, ℕ, List, set, get_or, sym, ap, ◌∙◌, subst, length-set, arith}
 use mathlib.Core.Option.{some}
 use lib.ListN.{get_elem?}
 use lib.Seq.{set-get_or}
@@ -16,7 +16,14 @@ use Rattle.board_core.specs.StoryRule.{StoryRule}
 use Rattle.board_core.specs.LoadRule.{LoadRule}
 use Rattle.board_core.specs.FullRule.{FullRule}
 use Rattle.board_core.specs.RoomRule.{store_of, RoomRule}
+use Rattle.board_core.specs.MarkRule.{MarkRule}
+use Rattle.board_core.specs.RecordRule.{RecordRule}
+use Rattle.board_core.specs.FactRule.{FactRule}
+use Rattle.board_core.specs.RoomRule.{Store}
 use Rattle.board_core.proofs.RoomFrame.{rooms_same}
+use Rattle.board_core.proofs.MarkFrame.{marks_same}
+use Rattle.board_core.proofs.RecordFrame.{records_same}
+use Rattle.board_core.proofs.FactFrame.{SameLoads, facts_same}
 use Rattle.board_core.specs.Holds.{Rule, Holds}
 use Rattle.board_core.proofs.SeatFrame.{seats_same}
 
@@ -41,15 +48,37 @@ pub record LeavesRegions (p q : Parts) (a b : Account) : Type 0 where
 
 -- a step of the log that changes the regions or what is known of them. Parts of the pool, the tree and the counts are framed here
 pub by_region : (k : Shape) (p q : Parts) (h g : List Event) (vs : List View) (id : ℕ) (v : View) (a : Account) → Rule k p h vs → get_elem? vs id ≡ some v → LeavesRest p q v.me a
-    → LogRule k q.log g (set vs id (with_me v a)) → StoryRule k g (set vs id (with_me v a)) → FullRule k (set vs id (with_me v a)) → LoadRule k q.log (set vs id (with_me v a)) → RoomRule k q.regions q.log.front q.log.slots (set vs id (with_me v a)) → Rule k q g (set vs id (with_me v a))
-by_region k p q h g vs id v a r at rest log stories full loads rooms = record { seats = seats_same k vs id v a r.seats at rest.who; log = log; stories = stories; loads = loads; rooms = rooms; full = full }
+    → LogRule k q.log g (set vs id (with_me v a)) → StoryRule k g (set vs id (with_me v a)) → FullRule k (set vs id (with_me v a)) → LoadRule k q.log (set vs id (with_me v a)) → RoomRule k q.regions q.log.front q.log.slots (set vs id (with_me v a))
+    → MarkRule k q.regions q.log.front q.log.slots (set vs id (with_me v a)) → RecordRule k (set vs id (with_me v a)) → FactRule k q.regions q.log.front (set vs id (with_me v a)) → Rule k q g (set vs id (with_me v a))
+by_region k p q h g vs id v a r at rest log stories full loads rooms marks records facts = record {
+  seats = seats_same k vs id v a r.seats at rest.who;
+  log = log;
+  stories = stories;
+  loads = loads;
+  rooms = rooms;
+  full = full;
+  marks = marks;
+  records = records;
+  facts = facts;
+}
 
--- a step of the log alone. Parts of the regions are framed here
-pub by_log : (k : Shape) (p q : Parts) (h g : List Event) (vs : List View) (id : ℕ) (v : View) (a : Account) → Rule k p h vs → get_elem? vs id ≡ some v → LeavesRest p q v.me a → LeavesRegions p q v.me a
+-- a step of the log alone. Parts of the regions are framed here, but what was loaded of blocks
+pub by_load : (k : Shape) (p q : Parts) (h g : List Event) (vs : List View) (id : ℕ) (v : View) (a : Account) → Rule k p h vs → get_elem? vs id ≡ some v → LeavesRest p q v.me a → LeavesRegions p q v.me a
+    → LogRule k q.log g (set vs id (with_me v a)) → StoryRule k g (set vs id (with_me v a)) → FullRule k (set vs id (with_me v a)) → LoadRule k q.log (set vs id (with_me v a)) → FactRule k q.regions q.log.front (set vs id (with_me v a)) → Rule k q g (set vs id (with_me v a))
+by_load k p q h g vs id v a r at rest regions log stories full loads facts =
+    let move : (F : (ℕ → ℕ) → ℕ → (ℕ → ℕ) → Type 0) → F p.regions p.log.front p.log.slots → F q.regions q.log.front q.log.slots = λ F t. subst (λ (x : (ℕ → ℕ) × ℕ × (ℕ → ℕ)). F x.0 x.1 x.2) (λ i. (sym regions.words i, sym regions.front i, sym regions.slots i)) t in
+    by_region k p q h g vs id v a r at rest log stories full loads
+    (move (λ x y z. RoomRule k x y z (set vs id (with_me v a))) (rooms_same k p.regions p.log.front p.log.slots vs id v a r.rooms at regions.store))
+    (move (λ x y z. MarkRule k x y z (set vs id (with_me v a))) (marks_same k p.regions p.log.front p.log.slots vs id v a r.marks at regions.store))
+    (records_same k vs id v a r.records at rest.who (ap (λ (x : Store). x.room.used) regions.store) (ap (λ (x : Store). x.room.sealed) regions.store))
+    facts
+
+-- a step of the log that loads nothing of blocks
+pub by_log : (k : Shape) (p q : Parts) (h g : List Event) (vs : List View) (id : ℕ) (v : View) (a : Account) → Rule k p h vs → get_elem? vs id ≡ some v → LeavesRest p q v.me a → LeavesRegions p q v.me a → SameLoads a.loads v.me.loads
     → LogRule k q.log g (set vs id (with_me v a)) → StoryRule k g (set vs id (with_me v a)) → FullRule k (set vs id (with_me v a)) → LoadRule k q.log (set vs id (with_me v a)) → Rule k q g (set vs id (with_me v a))
-by_log k p q h g vs id v a r at rest regions log stories full loads = by_region k p q h g vs id v a r at rest log stories full loads
-    (subst (λ (x : (ℕ → ℕ) × ℕ × (ℕ → ℕ)). RoomRule k x.0 x.1 x.2 (set vs id (with_me v a))) (λ i. (sym regions.words i, sym regions.front i, sym regions.slots i))
-    (rooms_same k p.regions p.log.front p.log.slots vs id v a r.rooms at regions.store))
+by_log k p q h g vs id v a r at rest regions alike log stories full loads = by_load k p q h g vs id v a r at rest regions log stories full loads
+    (subst (λ (x : (ℕ → ℕ) × ℕ). FactRule k x.0 x.1 (set vs id (with_me v a))) (λ i. (sym regions.words i, sym regions.front i))
+    (facts_same k p.regions p.log.front p.log.front vs id v a r.facts at (ap (λ (x : Store). x.room.sealed) regions.store) alike (omega arith)))
 
 -- a step that leaves the words as they were
 pub still : (k : Shape) (s : St) (i id : ℕ) (cs : List _) (v : View) (a : Account) → Holds k s → Rule k (parts_of k s.words) (history_of k (parts_of k s.words)) (set s.views id (with_me v a))

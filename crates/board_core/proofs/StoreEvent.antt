@@ -24,6 +24,9 @@ use Rattle.board_core.proofs.Everyone.{mine, changed, moved, total_changed, tota
 use Rattle.board_core.proofs.LogFrame.{hand_at, same_some, free_quiet, free_fits, owner, others_free}
 use Rattle.board_core.proofs.StoryFrame.{stories_same}
 use Rattle.board_core.proofs.LoadFrame.{loads_same}
+use Rattle.board_core.proofs.MarkEvent.{event_marks}
+use Rattle.board_core.proofs.RecordFrame.{records_same}
+use Rattle.board_core.proofs.FactFrame.{facts_same}
 use Rattle.board_core.proofs.Stepped.{by_region, words_moved}
 use Rattle.board_core.specs.LogWord.{kind_in, loader_in, target_in}
 use Rattle.board_core.proofs.Stored.{stored_here, stored_else}
@@ -124,6 +127,9 @@ store_event k p h vs id loader word v r at may =
     (full_same k vs id v (after_logged v.me word) r.full at refl refl)
     (loads_same k p.log u vs id v (after_logged v.me word) r.loads at record { front = omega arith; slots = λ i behind. stored_else p.log.slots p.log.front word i (λ e. omega arith) } refl)
     (event_rooms k p.regions p.log.front p.log.slots vs id word v r.rooms at (pending_sealed k p.regions v.me loader word may.small (mine (λ x. RoomFits k p.regions (store_of x)) vs id v at r.rooms.rooms) may.kind))
+    (event_marks k p.regions p.log.front p.log.slots vs id loader word v r.marks at may)
+    (records_same k vs id v (after_logged v.me word) r.records at refl refl refl)
+    (facts_same k p.regions p.log.front p.log.front vs id v (after_logged v.me word) r.facts at refl record { heads = refl; facts = refl; codes = refl; marks = refl } (omega arith))
 
 pub event_allowed : (k : Shape) (slots id place loader word : ℕ) (m : Mine) → place ≡ log_at k + m.0.me.log.seen → MayLog k m.0.me loader word → Allows (Holds k) slots id m place (λ _. word) (λ _. Logs (step slots place word 0 none) m word)
 event_allowed k slots id place loader word m is may s h _ at _ =

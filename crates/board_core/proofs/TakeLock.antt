@@ -71,20 +71,22 @@ pub take : (k : Shape) (p : Parts) (h : List Event) (vs : List View) (id c : ℕ
 take k p h vs id c v r at who may free = by_log k p (record p { log = record p.log { lock = c } }) h h vs id v (after_take v.me) r at
     record { who = refl; pool_words = refl; page_words = refl; pool = refl; tree = refl; counts = refl }
     record { words = refl; front = refl; slots = refl; store = refl }
+    record { heads = refl; facts = refl; codes = refl; marks = refl }
     (take_log k p.log h vs id c v r.log at who (loader_above k v.me.who c who (mine (λ x. WhoFits k x.who) vs id v at r.seats.limits)) may free)
     (stories_same k h vs id v (after_take v.me) r.stories at refl refl)
     (full_same k vs id v (after_take v.me) r.full at refl refl)
     (loads_same k p.log (record p.log { lock = c }) vs id v (after_take v.me) r.loads at (not_later p.log (record p.log { lock = c }) refl refl) refl)
 
 pub take_allowed : (k : Shape) (slots id c : ℕ) (m : Mine) → m.0.me.who ≡ Loader c → MayTake m.0.me → Allows (Holds k) slots id m 1 (λ n. either (n == 0) c n) (Takes (step slots 1 0 c none) m)
-take_allowed k slots id c m who may s h _ at _ = let n : ℕ = get_or s.words 1 0 in let p : Parts = parts_of k s.words in dite (ℕ_discrete n 0)
+take_allowed k slots id c m who may s h _ at _ = let n : ℕ = get_or s.words 1 0 in let p : Parts = parts_of k s.words in
+    let idle : m.0.me.log.pending ≡ nothing = subst (λ x. HoldsLock p.log (hand_of m.0.me) x) may (hand_at k p.log (history_of k p) s.views id m.0 h.rule.log at).holds in dite (ℕ_discrete n 0)
     (λ free. (
       with_me m.0 (after_take m.0.me),
       keeps,
       tt,
       subst (λ b. Holds k (stepped s 1 (either b c n) id m.1 (with_me m.0 (after_take m.0.me)) keeps)) (sym (eq-eqb n 0 free))
           (words_moved k s 1 c id m.1 m.0 (after_take m.0.me) _ h (set_lock k s.words c h.wide) (take k p (history_of k p) s.views id c m.0 h.rule at who may free)),
-      record { won = λ _. refl; lost = λ taken. absurd (taken free) },
+      record { won = λ _. refl; lost = λ taken. absurd (taken free); idle = idle },
     ))
     (λ taken. (
       m.0,
@@ -92,5 +94,5 @@ take_allowed k slots id c m who may s h _ at _ = let n : ℕ = get_or s.words 1 
       tt,
       subst (λ b. Holds k (stepped s 1 (either b c n) id m.1 m.0 keeps)) (sym (ne_eqb n 0 taken))
           (still k s 1 id m.1 m.0 m.0.me h (subst (λ (l : List View). Rule k p (history_of k p) l) (sym (set_again s.views id m.0 at)) h.rule)),
-      record { won = λ free. absurd (taken free); lost = λ _. refl },
+      record { won = λ free. absurd (taken free); lost = λ _. refl; idle = idle },
     ))

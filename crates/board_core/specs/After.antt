@@ -25,6 +25,8 @@ lengths_of l = record {
   lost = length l.lost;
   codes = length l.codes;
   facts = length l.facts;
+  heads = length l.heads;
+  marks = length l.marks;
   shown = length l.shown;
 }
 
@@ -80,7 +82,7 @@ after_event a e = record a {
   entries = a.entries ++ noted a.loads (entry_of (a.log.seen + 1) e ∷ []);
 }
 
--- a log word, the first word of a block or a mark was loaded
+-- a log word was loaded
 abbrev pub after_shown : Account → ℕ → ℕ → Account
 after_shown a place word = record a { loads = record a.loads { shown = a.loads.shown ++ record { place = place; word = word; front = a.log.seen } ∷ [] } }
 
@@ -96,9 +98,15 @@ after_made a = record a { who = Opener (made_by a.who + 1) }
 abbrev pub after_word : Account → ℕ → List Sealed → Account
 after_word a word more = record a { room = record a.room { used = a.room.used ++ word ∷ []; sealed = a.room.sealed ++ more } }
 
--- a code word of a row, and a name, atom or bond word, was loaded
+-- a code word of a row was loaded; the first word of a block; a mark; a name, atom or bond word
 abbrev pub after_code : Account → Row → ℕ → ℕ → Account
 after_code a row code word = record a { loads = record a.loads { codes = a.loads.codes ++ record { row = row; code = code; word = word } ∷ [] } }
+
+abbrev pub after_head : Account → ℕ → ℕ → Account
+after_head a place word = record a { loads = record a.loads { heads = a.loads.heads ++ record { place = place; word = word } ∷ [] } }
+
+abbrev pub after_mark : Account → ℕ → ℕ → Account
+after_mark a place word = record a { loads = record a.loads { marks = a.loads.marks ++ record { place = place; word = word; front = a.log.seen } ∷ [] } }
 
 abbrev pub after_fact : Account → ℕ → ℕ → Account
 after_fact a place word = record a { loads = record a.loads { facts = a.loads.facts ++ record { place = place; word = word } ∷ [] } }

@@ -12,6 +12,9 @@ use Rattle.board_core.specs.StoryRule.{StoryRule}
 use Rattle.board_core.specs.LoadRule.{LoadRule}
 use Rattle.board_core.specs.RoomRule.{RoomRule}
 use Rattle.board_core.specs.FullRule.{FullRule}
+use Rattle.board_core.specs.MarkRule.{MarkRule}
+use Rattle.board_core.specs.RecordRule.{RecordRule}
+use Rattle.board_core.specs.FactRule.{FactRule}
 
 -- the parts, over the words by group, the history that they show, and all views
 pub record Rule (k : Shape) (p : Parts) (history : List Event) (vs : List View) : Type 0 where
@@ -21,6 +24,9 @@ pub record Rule (k : Shape) (p : Parts) (history : List Event) (vs : List View) 
   pub loads : LoadRule k p.log vs
   pub rooms : RoomRule k p.regions p.log.front p.log.slots vs
   pub full : FullRule k vs
+  pub marks : MarkRule k p.regions p.log.front p.log.slots vs
+  pub records : RecordRule k vs
+  pub facts : FactRule k p.regions p.log.front vs
 
 pub record Holds (k : Shape) (s : State (Unit {0}) View) : Type 0 where
   pub wide : length s.words ≡ total_of k

@@ -11,6 +11,11 @@ pub mod StoryRule
 pub mod LoadRule
 pub mod RoomRule
 pub mod FullRule
+pub mod Records
+pub mod RecordRule
+pub mod MarkRule
+pub mod FactRule
+pub mod Loaded
 pub mod After
 pub mod Holds
 pub mod Steps

@@ -1,9 +1,9 @@
 -- When a caller may take each kind of step, and what the step tells it: of the seat before, the number found, and the seat after.
-use Rattle.std.specs.Prelude.{◌≡◌, ◌≢◌, ℕ, ◌<◌, ◌≤◌, ◌^◌, ◌⊎◌, List, [], Some, None, length, ◌++◌, ◌∷◌, ◌+◌, ◌-◌}
+use Rattle.std.specs.Prelude.{◌≡◌, ◌≢◌, ◌↔◌, ℕ, ◌<◌, ◌≤◌, ◌^◌, ◌⊎◌, List, [], Some, None, length, ◌++◌, ◌∷◌, ◌+◌, ◌-◌}
 use Rattle.atomic_table.specs.Table.{Me, Step}
 use Rattle.htss_defs.specs.declared.shape.Shape.{Shape}
 use Rattle.htss_defs.specs.declared.history.Event.{Event}
-use Rattle.htss_defs.specs.History.{IsLegal}
+use Rattle.htss_defs.specs.History.{IsLegal, Withdraws}
 use Rattle.board_core.specs.declared.account.Account.{Account}
 use Rattle.board_core.specs.declared.account.View.{View}
 use Rattle.board_core.specs.declared.account.Who.TheVariants.{Loader}
@@ -11,16 +11,21 @@ use Rattle.board_core.specs.declared.log.Holding.TheVariants.{Away, Fronted}
 use Rattle.board_core.specs.declared.log.Ending.{Ending}
 use Rattle.board_core.specs.declared.entry.Entry.{Entry}
 use Rattle.board_core.specs.Each.{Each}
-use Rattle.board_core.specs.Words.{Parts}
-use Rattle.board_core.specs.Histories.{history_of, shown_by}
+use Rattle.board_core.specs.Words.{Parts, total_of}
+use Rattle.board_core.specs.Blocks.{shown_at, ended_at, block_size}
+use Rattle.board_core.specs.Records.{IsRecord}
+use Rattle.board_core.specs.Histories.{block_at, history_of, shown_by}
 use Rattle.board_core.specs.Accounts.{nothing, with_me}
 use Rattle.board_core.specs.Truths.{IsTrueRoom, IsTrueLog, told_in}
 use Rattle.board_core.specs.declared.room.Sealed.{Sealed}
 use Rattle.board_core.specs.declared.room.Row.{Row}
-use Rattle.board_core.specs.RoomRule.{own_block, region_of, store_of, SealedFits}
+use Rattle.board_core.specs.RoomRule.{own_block, region_of, store_of, IsSealed, SealedFits}
+use Rattle.board_core.specs.MarkRule.{IsAmong, AreListed}
+use Rattle.board_core.specs.Loaded.{HasLoaded, SawMark, IsOpenMark, IsInTable}
 use Rattle.board_core.specs.LoadRule.{LoadFits}
-use Rattle.board_core.specs.LogWord.{publication_word, target_in, withdrawal_word}
-use Rattle.board_core.specs.After.{after_code, after_fact, after_word, noted, after_take, after_free, after_answer, after_front, after_shows, after_ends, after_logged, after_event, after_shown}
+use Rattle.board_core.specs.FactRule.{BlocksStand}
+use Rattle.board_core.specs.LogWord.{kind_in, publication_word, target_in, withdrawal_word}
+use Rattle.board_core.specs.After.{after_code, after_fact, after_head, after_mark, after_word, noted, after_take, after_free, after_answer, after_front, after_shows, after_ends, after_logged, after_event, after_shown}
 
 abbrev pub Mine : Type 0
 Mine = Me (Unit {0}) View
@@ -44,16 +49,34 @@ pub record MayStore (k : Shape) (a : Account) (loader : ℕ) : Type 0 where
   pub who : a.who ≡ Loader loader
   pub room : length a.room.used < k.room
 
--- with that word a block is complete: it lies past the others, and is as long as its first word says
+-- with that word a block is complete: it lies past the others, is as long as its first word says, has no mark, and shows a record
 pub record MaySeal (k : Shape) (a : Account) (word : ℕ) (s : Sealed) : Type 0 where
   pub fits : SealedFits (region_of k a.who) (a.room.used ++ word ∷ []) s
   pub past : Each (λ t. t.place + t.size ≤ s.place) a.room.sealed
+  pub first : own_block k (store_of (after_word a word [])) s.place shown_at ≡ 0
+  pub last : own_block k (store_of (after_word a word [])) s.place ended_at ≡ 0
+  pub shows : IsRecord (own_block k (store_of (after_word a word [])) s.place)
 
 -- a mark may be stored: the front was loaded under the lock, the log has room, and nothing is pending
 pub record MayMark (k : Shape) (a : Account) : Type 0 where
   pub holding : a.log.holding ≡ Fronted
   pub room : a.log.seen < k.log
   pub quiet : a.log.pending ≡ nothing
+
+-- the first mark of an own block may be stored: it is not published
+pub record MayPublish (k : Shape) (a : Account) (block : ℕ) : Type 0 where
+  pub may : MayMark k a
+  pub sealed : IsSealed a.room.sealed block
+  pub fresh : ¬ (IsAmong a.room.published block)
+
+-- the last mark of a block may be stored: the number's log word was loaded as its publication, and this mark, at the front that is
+-- seen, as no event's
+pub record MayEnd (k : Shape) (a : Account) (e : Ending) : Type 0 where
+  pub may : MayMark k a
+  pub loaded : HasLoaded k a e.target e.block
+  pub mark : ℕ
+  pub saw : SawMark a e.block a.log.seen mark
+  pub is_open : IsOpenMark a.log.seen mark
 
 -- the word of the publication, or of the withdrawal, whose mark is stored
 abbrev pub IsPublicationOf : Account → ℕ → ℕ → Type 0
@@ -82,15 +105,33 @@ pub record MayShowEvent (a : Account) (word : ℕ) : Type 0 where
 
 -- ---- what is known of a board whatever its words are
 
+-- what the rule says of the blocks that the events show: each shows a record, and its last mark is the number of the event, if any,
+-- that withdraws it
+pub record KnownBlocks (k : Shape) (p : Parts) : Type 0 where
+  pub records : (i : ℕ) → i < p.log.front → ¬ (kind_in (p.log.slots i) ≡ 2) → IsRecord (block_at k p.regions (target_in (p.log.slots i)))
+  pub marks : (i at : ℕ) → i < p.log.front → ¬ (kind_in (p.log.slots i) ≡ 2) → 0 < at → at ≤ p.log.front
+      → (block_at k p.regions (target_in (p.log.slots i)) ended_at ≡ at ↔ Withdraws (history_of k p) at (i + 1))
+
 -- what the rule says of the words alone
 pub record Known (k : Shape) (p : Parts) : Type 0 where
   pub front : p.log.front ≤ k.log
   pub legal : IsLegal (history_of k p)
+  pub blocks : KnownBlocks k p
 
 -- what the words have that the account has seen
 pub record Agrees (k : Shape) (p : Parts) (a : Account) : Type 0 where
   pub seen : a.log.seen ≤ p.log.front
   pub shown : Each (LoadFits k p.log) a.loads.shown
+  pub blocks : BlocksStand k p.regions p.log.front a.loads
+
+-- the words may be these: the rule allows them, and they have what the account has loaded
+pub record MayBe (k : Shape) (p : Parts) (a : Account) : Type 0 where
+  pub known : Known k p
+  pub agrees : Agrees k p a
+
+-- some words are as the rule allows, and have what the account has loaded
+abbrev pub MayBeSome : Shape → Account → Type 0
+MayBeSome k a = (p : Parts) × MayBe k p a
 
 -- entries that tell of no event, and are true of each board that has what was loaded
 pub record AreTrue (k : Shape) (a : Account) (es : List Entry) : Type 0 where
@@ -100,10 +141,11 @@ pub record AreTrue (k : Shape) (a : Account) (es : List Entry) : Type 0 where
 
 -- ---- what the steps tell
 
--- the lock was free and is the caller's, or nothing changed
+-- the lock was free and is the caller's, or nothing changed; a caller without the lock has nothing pending
 pub record Takes (s : Step (Unit {0})) (m : Mine) (found : ℕ) (n : Mine) : Type 0 where
   pub won : found ≡ 0 → n ≡ became m (after_take m.0.me)
   pub lost : found ≢ 0 → n ≡ m
+  pub idle : m.0.me.log.pending ≡ nothing
 
 abbrev pub Frees : List Entry → Step (Unit {0}) → Mine → ℕ → Mine → Type 0
 Frees es s m found n = n ≡ became m (after_free m.0.me es)
@@ -117,9 +159,17 @@ pub record LoadsFront (s : Step (Unit {0})) (m : Mine) (found : ℕ) (n : Mine) 
   pub in_log : found ≤ m.0.shape.log
   pub same : m.0.me.log.holding ≡ Fronted → found ≡ m.0.me.log.seen
 
--- a word of the region is stored, and completes these blocks
-abbrev pub Stores : List Sealed → Step (Unit {0}) → Mine → ℕ → Mine → Type 0
-Stores more s m found n = n ≡ became m (after_word m.0.me s.first more)
+-- what the rule says of an own region: each sealed block begins before the next word and ends there or before, and what is published
+-- is sealed
+pub record IsKnownRoom (k : Shape) (a : Account) : Type 0 where
+  pub before : Each (λ t. t.place < region_of k a.who + length a.room.used) a.room.sealed
+  pub within : Each (λ t. t.place + t.size ≤ region_of k a.who + length a.room.used) a.room.sealed
+  pub listed : AreListed a.room
+
+-- a word of the region is stored, and completes these blocks; what was stored before is as the rule says
+pub record Stores (more : List Sealed) (s : Step (Unit {0})) (m : Mine) (found : ℕ) (n : Mine) : Type 0 where
+  pub after : n ≡ became m (after_word m.0.me s.first more)
+  pub room : IsKnownRoom m.0.shape m.0.me
 
 -- the mark of a block is stored: of its publication, of its withdrawal
 abbrev pub Shows : ℕ → Step (Unit {0}) → Mine → ℕ → Mine → Type 0
@@ -134,11 +184,25 @@ Logs s m found n = n ≡ became m (after_logged m.0.me s.first)
 abbrev pub ShowsEvent : Event → Step (Unit {0}) → Mine → ℕ → Mine → Type 0
 ShowsEvent e s m found n = n ≡ became m (after_event m.0.me e)
 
-abbrev pub LoadsShown : Step (Unit {0}) → Mine → ℕ → Mine → Type 0
-LoadsShown s m found n = n ≡ became m (after_shown m.0.me s.word found)
+-- a log word was loaded; where it publishes a block, that is in the table
+pub record LoadsLog (s : Step (Unit {0})) (m : Mine) (found : ℕ) (n : Mine) : Type 0 where
+  pub after : n ≡ became m (after_shown m.0.me s.word found)
+  pub block : ¬ (kind_in found ≡ 2) → IsInTable m.0.shape (target_in found)
 
-abbrev pub LoadsCode : Row → ℕ → Step (Unit {0}) → Mine → ℕ → Mine → Type 0
-LoadsCode row code s m found n = n ≡ became m (after_code m.0.me row code found)
+-- the first word of a block was loaded; all of the block is in the table. The words may be those of some board
+pub record LoadsHead (s : Step (Unit {0})) (m : Mine) (found : ℕ) (n : Mine) : Type 0 where
+  pub after : n ≡ became m (after_head m.0.me s.word found)
+  pub until : s.word + block_size found ≤ total_of m.0.shape
+  pub may : MayBeSome m.0.shape (after_head m.0.me s.word found)
 
-abbrev pub LoadsFact : Step (Unit {0}) → Mine → ℕ → Mine → Type 0
-LoadsFact s m found n = n ≡ became m (after_fact m.0.me s.word found)
+abbrev pub LoadsMark : Step (Unit {0}) → Mine → ℕ → Mine → Type 0
+LoadsMark s m found n = n ≡ became m (after_mark m.0.me s.word found)
+
+-- a word of a block was loaded, and the words that were loaded may be those of some board
+pub record LoadsCode (row : Row) (code : ℕ) (s : Step (Unit {0})) (m : Mine) (found : ℕ) (n : Mine) : Type 0 where
+  pub after : n ≡ became m (after_code m.0.me row code found)
+  pub may : MayBeSome m.0.shape (after_code m.0.me row code found)
+
+pub record LoadsFact (s : Step (Unit {0})) (m : Mine) (found : ℕ) (n : Mine) : Type 0 where
+  pub after : n ≡ became m (after_fact m.0.me s.word found)
+  pub may : MayBeSome m.0.shape (after_fact m.0.me s.word found)

@@ -15,13 +15,13 @@ pub struct CodeLoad {
     pub word: u64,
 }
 
-/// A name, atom or bond word.
+/// A first word of a block, or a name, atom or bond word.
 pub struct WordLoad {
     pub place: u64,
     pub word: u64,
 }
 
-/// A log word, the first word of a block, or a mark, with the front seen at the load.
+/// A log word, or a mark of a block, with the front seen at the load.
 pub struct ShownLoad {
     pub place: u64,
     pub word: u64,
@@ -36,7 +36,12 @@ pub struct Loads {
     pub states: LinkedList<StateLoad>,
     pub lost: LinkedList<StateLoad>,
     pub codes: LinkedList<CodeLoad>,
+    /// Name, atom and bond words.
     pub facts: LinkedList<WordLoad>,
+    /// First words of blocks.
+    pub heads: LinkedList<WordLoad>,
+    pub marks: LinkedList<ShownLoad>,
+    /// Log words.
     pub shown: LinkedList<ShownLoad>,
 }
 
@@ -49,5 +54,7 @@ pub struct Lengths {
     pub lost: u64,
     pub codes: u64,
     pub facts: u64,
+    pub heads: u64,
+    pub marks: u64,
     pub shown: u64,
 }

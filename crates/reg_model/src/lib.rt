@@ -7,3 +7,4 @@ mod search;
 mod tests;
 
 pub use plain_registry::{PlainError, PlainRegistry};
+pub use search::Search;

@@ -2,7 +2,6 @@ use Rattle.std.proofs.Common.{◌≡◌, refl, ap, ◌∙◌}
 use Rattle.htss_defs.specs.declared.shape.Shape.{Shape}
 use Rattle.board_core.specs.declared.account.Account.{Account}
 use Rattle.board_core.specs.declared.log.Holding.TheVariants.{Away}
-use Rattle.board_core.specs.Accounts.{nothing}
 use Rattle.board.proofs.Firsts.{one_out, two_out, same_of, first_loader, new_account}
 use Rattle.board.proofs.tests.takes_steps.Goals as goal
 
@@ -24,8 +23,4 @@ take_and_free-requires-clause-loader g c = first_loader _ _ _ c.note.ensures.sam
 
 pub take_and_free-requires-clause-may : goal.take_and_free-requires-clause-may
 take_and_free-requires-clause-may g c = new_account (λ (a : Account). a.log.holding ≡ Away) _ _ _ _ c.note.ensures.same
-    (one_out _ _ _ _ _ c.in_ok-board.ensures.count c.in_ok-board.ensures.limits c.remove-first.ensures.value c.remove-first.ensures.items c.in_ok-board.ensures.callers) refl
-
-pub take_and_free-requires-clause-idle : goal.take_and_free-requires-clause-idle
-take_and_free-requires-clause-idle g c = new_account (λ (a : Account). a.log.pending ≡ nothing) _ _ _ _ c.note.ensures.same
     (one_out _ _ _ _ _ c.in_ok-board.ensures.count c.in_ok-board.ensures.limits c.remove-first.ensures.value c.remove-first.ensures.items c.in_ok-board.ensures.callers) refl

@@ -1,0 +1,20 @@
+use Rattle.std.proofs.Common.{◌≡◌, ℕ, ◌+◌, ◌-◌, ◌^◌, ◌<◌, ◌≤◌, refl, ap, ◌∙◌, sym, subst, arith}
+use Rattle.htss_defs.specs.declared.shape.Shape.{Shape}
+use Rattle.board_core.specs.declared.account.Account.{Account}
+use Rattle.board_core.specs.Loaded.{KnowsBlock, KnowsHead, IsInTable}
+use Rattle.board_core.specs.Blocks.{block_size, atoms_in}
+use Rattle.board_core.specs.Words.{total_of}
+use Rattle.board_core.proofs.LoadBlock.{head_allowed, mark_allowed, fact_allowed}
+use Rattle.board.proofs.Tied.{same_table, same_shape, of_shape, of_both, stays}
+use Rattle.board.proofs.NextWord.{first_inside, word_inside, word_fits, block_fits, block_word, block_small, code_inside, code_asked}
+use Rattle.board.proofs.blocks.load_code_of.Goals as goal
+
+pub code_place-at-requires-clause-block : goal.code_place-at-requires-clause-block
+code_place-at-requires-clause-block g c = block_small c.board.inside.shape _ _ c.board.invariant.2 (of_shape (λ (k : Shape). c.args.block + block_size c.args.head ≤ total_of k) _ _ _ c.board.view_is c.requires.place)
+
+pub load-requires : goal.load-requires
+load-requires g c = (
+  same_table _ _ _ _ _ _ _ c.board.view_is c.caller.view_is c.requires.fits,
+  code_inside _ c.args.block c.args.head c.args.atom c.args.code _ c.board.inside.shape c.board.invariant.1 (of_shape (λ (k : Shape). c.args.block + block_size c.args.head ≤ total_of k) _ _ _ c.board.view_is c.requires.place) c.code_place-at.ensures c.requires.atom.0 c.requires.atom.1 c.requires.code,
+  code_asked _ _ _ _ _ c.args.head c.args.atom c.args.code _ _ _ c.requires.row c.requires.which c.code_place-at.ensures (of_both (λ (k : Shape) (a : Account). KnowsHead k a c.args.block c.args.head) _ _ _ _ _ _ _ _ c.board.view_is c.caller.view_is c.board.invariant.0 c.requires.known) c.requires.atom.0 c.requires.atom.1 c.requires.code (stays _ _ _ c.caller.invariant.1),
+)

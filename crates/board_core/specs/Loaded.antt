@@ -1,0 +1,93 @@
+-- What a caller has loaded of the log, of blocks and of their marks.
+use Rattle.std.specs.Prelude.{◌≡◌, ℕ, ◌+◌, ◌-◌, ◌<◌, ◌≤◌, ◌⊎◌}
+use mathlib.Core.Option.{some}
+use lib.ListN.{get_elem?}
+use Rattle.htss_defs.specs.declared.shape.Shape.{Shape}
+use Rattle.board_core.specs.declared.account.Account.{Account}
+use Rattle.board_core.specs.declared.loads.ShownLoad.{ShownLoad}
+use Rattle.board_core.specs.declared.loads.WordLoad.{WordLoad}
+use Rattle.board_core.specs.Words.{log_at, regions_at, total_of}
+use Rattle.board_core.specs.LogWord.{kind_in, target_in}
+use Rattle.board_core.specs.declared.loads.CodeLoad.{CodeLoad}
+use Rattle.board_core.specs.Blocks.{ended_at, block_size, atoms_in, code_words_at, bond_words_at}
+use Rattle.board_core.specs.Records.{code_word_at}
+
+-- the log word of this number was loaded
+pub record HasLogWord (k : Shape) (a : Account) (number word : ℕ) : Type 0 where
+  pub load : ShownLoad
+  pub index : ℕ
+  pub loaded : get_elem? a.loads.shown index ≡ some load
+  pub above : 0 < number
+  pub inside : number ≤ k.log
+  pub place : load.place ≡ log_at k + (number - 1)
+  pub found : load.word ≡ word
+
+-- it publishes this block
+pub record HasLoaded (k : Shape) (a : Account) (number block : ℕ) : Type 0 where
+  pub word : ℕ
+  pub log : HasLogWord k a number word
+  pub kind : ¬ (kind_in word ≡ 2)
+  pub names : target_in word ≡ block
+
+-- some log word that was loaded publishes it
+abbrev pub KnowsBlock : Shape → Account → ℕ → Type 0
+KnowsBlock k a block = (number : ℕ) × HasLoaded k a number block
+
+-- and its first word was loaded
+pub record KnowsHead (k : Shape) (a : Account) (block head : ℕ) : Type 0 where
+  pub known : KnowsBlock k a block
+  pub load : WordLoad
+  pub index : ℕ
+  pub loaded : get_elem? a.loads.heads index ≡ some load
+  pub place : load.place ≡ block
+  pub found : load.word ≡ head
+
+-- its last mark was loaded, at this front, as this number
+pub record SawMark (a : Account) (block front mark : ℕ) : Type 0 where
+  pub load : ShownLoad
+  pub index : ℕ
+  pub loaded : get_elem? a.loads.marks index ≡ some load
+  pub place : load.place ≡ block + ended_at
+  pub seen : load.front ≡ front
+  pub found : load.word ≡ mark
+
+-- which is no event's up to that front
+abbrev pub IsOpenMark : ℕ → ℕ → Type 0
+IsOpenMark front mark = (mark ≡ 0) ⊎ (front < mark)
+
+-- the first three words of a block are words of the regions
+pub record IsInTable (k : Shape) (block : ℕ) : Type 0 where
+  pub from : regions_at k ≤ block
+  pub until : block + 3 ≤ total_of k
+
+-- a word of a block was loaded: a name, atom or bond word by its place in the block, a code word by its atom, from 1, and its code
+pub record HasFact (a : Account) (block i word : ℕ) : Type 0 where
+  pub load : WordLoad
+  pub index : ℕ
+  pub loaded : get_elem? a.loads.facts index ≡ some load
+  pub place : load.place ≡ block + i
+  pub found : load.word ≡ word
+
+pub record HasCode (a : Account) (block atom code word : ℕ) : Type 0 where
+  pub load : CodeLoad
+  pub index : ℕ
+  pub loaded : get_elem? a.loads.codes index ≡ some load
+  pub row : (load.row.block ≡ block) × (load.row.atom ≡ atom)
+  pub code_is : load.code ≡ code
+  pub found : load.word ≡ word
+
+-- these are the words of a block as they were loaded, the two marks excepted
+pub record HasBlock (k : Shape) (a : Account) (block : ℕ) (words : ℕ → ℕ) : Type 0 where
+  pub head : KnowsHead k a block (words 0)
+  pub facts : (i : ℕ) → 3 ≤ i → i < code_words_at (words 0) → HasFact a block i (words i)
+  pub codes : (atom code : ℕ) → atom < atoms_in (words 0) → code < 5 → HasCode a block (atom + 1) code (words (code_word_at (words 0) atom code))
+  pub bonds : (i : ℕ) → bond_words_at (words 0) ≤ i → i < block_size (words 0) → HasFact a block i (words i)
+
+-- the second account has seen and loaded all that the first has
+pub record Grows (a b : Account) : Type 0 where
+  pub seen : a.log.seen ≤ b.log.seen
+  pub shown : (j : ℕ) (x : ShownLoad) → get_elem? a.loads.shown j ≡ some x → get_elem? b.loads.shown j ≡ some x
+  pub heads : (j : ℕ) (x : WordLoad) → get_elem? a.loads.heads j ≡ some x → get_elem? b.loads.heads j ≡ some x
+  pub marks : (j : ℕ) (x : ShownLoad) → get_elem? a.loads.marks j ≡ some x → get_elem? b.loads.marks j ≡ some x
+  pub facts : (j : ℕ) (x : WordLoad) → get_elem? a.loads.facts j ≡ some x → get_elem? b.loads.facts j ≡ some x
+  pub codes : (j : ℕ) (x : CodeLoad) → get_elem? a.loads.codes j ≡ some x → get_elem? b.loads.codes j ≡ some x

@@ -1,0 +1,5 @@
+pub mod Staged
+pub mod Calls
+pub mod Reasons
+pub mod Additions
+pub mod FirstLoader

@@ -1,0 +1,7 @@
+pub mod Read
+pub mod Block
+pub mod Living
+pub mod Rows
+pub mod Walks
+pub mod Answered
+pub mod Opened

@@ -1,0 +1,16 @@
+use Rattle.std.proofs.Common.{slice_index}
+use Rattle.searcher.proofs.Living.{is_record, read_live}
+use Rattle.searcher.proofs.live.load_live.Goals as goal
+
+pub returns-in_default-clause-none : goal.returns-in_default-clause-none
+returns-in_default-clause-none c = λ _. c.open_block.ensures.none c.in_default.is
+
+pub read_name-name-requires-clause-valid : goal.read_name-name-requires-clause-valid
+read_name-name-requires-clause-valid c = is_record c.args.board.now.shape c.load_block.new.caller.account c.in-Some.block (slice_index c.load_block.new.words) c.load_block.ensures.words c.load_block.ensures.may
+
+pub read_mol-requires-clause-valid : goal.read_mol-requires-clause-valid
+read_mol-requires-clause-valid c = is_record c.args.board.now.shape c.load_block.new.caller.account c.in-Some.block (slice_index c.load_block.new.words) c.load_block.ensures.words c.load_block.ensures.may
+
+pub returns-clause-live : goal.returns-clause-live
+returns-clause-live c = read_live c.args.board.now.shape c.open_block.new.caller.account c.load_block.new.caller.account c.args.front c.args.number c.in-Some.block (slice_index c.load_block.new.words) c.read_name-name.result c.in_ok-mol.mol
+    c.in-Some.ensures.block c.load_block.ensures.reads c.requires.number.1 c.load_block.ensures.words c.load_block.ensures.may c.read_name-name.ensures c.in_ok-mol.ensures
