@@ -2,9 +2,11 @@ ghost use Rattle.std.specs.Prelude.{◌≡◌, ◌≤◌, length, slice_index, I
 ghost use Rattle.htss_defs.specs.Marked.{IsMarked};
 ghost use Rattle.board_core.specs.Blocks.{block_size, molecule_in, name_in};
 ghost use Rattle.board_core.specs.Records.{IsRecord};
+ghost use Rattle.env_code.specs.Coders.{IsCoder};
 ghost use Rattle.block_words.specs.Writing.{size_of};
 
 use crate::{BlockWriter, read_mol, read_name};
+use env_code::Coder;
 use htss_defs::{Atom, Bond, Mol, Name};
 use ring_bonds::mark_rings;
 use std::alloc::Global;
@@ -27,6 +29,16 @@ fn bond_of(first: u16, second: u16) -> Bond {
     }
 }
 
+// A coder that was loaded with the molecule.
+fn coder_of(mol: &Mol) -> Coder
+    requires marked { IsMarked mol.now }
+    ensures { IsCoder mol.now result }
+{
+    let mut coder = Coder::new();
+    coder.load(mol);
+    coder
+}
+
 fn ethanol(alloc: Global) -> Result<Mol, Fail>
     ensures { IfOk result (λ mol. IsMarked mol) }
 {
@@ -46,7 +58,8 @@ fn write_all(words: &mut [u64], name: &Name, mol: &Mol)
     ensures name { name_in (slice_index words.new) ≡ name.now }
     ensures molecule { molecule_in (slice_index words.new) ≡ mol.now }
 {
-    let mut writer = BlockWriter::new(name, mol);
+    let coder = coder_of(mol);
+    let mut writer = BlockWriter::new(&coder, name, mol);
     let size = writer.size();
     for index in 0..size {
         words[index as usize] = writer.word(index);
@@ -57,7 +70,8 @@ fn write_all(words: &mut [u64], name: &Name, mol: &Mol)
 fn writes_and_reads_ethanol(rt: HostRuntime) -> Result<(), Fail> {
     let name = Name::new(b"ethanol").ok_or("no name")?;
     let mol = ethanol(rt.alloc())?;
-    let size = BlockWriter::new(&name, &mol).size();
+    let coder = coder_of(&mol);
+    let size = BlockWriter::new(&coder, &name, &mol).size();
     if size != 24 {
         return Err("another size".into());
     }
@@ -105,7 +119,8 @@ fn writes_and_reads_ethanol(rt: HostRuntime) -> Result<(), Fail> {
 fn writes_no_word_of_an_empty_name(rt: HostRuntime) -> Result<(), Fail> {
     let name = Name::new(b"").ok_or("no name")?;
     let mol = ethanol(rt.alloc())?;
-    let mut writer = BlockWriter::new(&name, &mol);
+    let coder = coder_of(&mol);
+    let mut writer = BlockWriter::new(&coder, &name, &mol);
     if writer.size() != 23 {
         return Err("another size".into());
     }
@@ -136,7 +151,8 @@ fn writes_other_fields(rt: HostRuntime) -> Result<(), Fail> {
     let bonds = vec![in rt.alloc(); bond]?;
     let mut mol = Mol::new(atoms, bonds).ok_or("no molecule")?;
     mark_rings(&mut mol);
-    let mut writer = BlockWriter::new(&name, &mol);
+    let coder = coder_of(&mol);
+    let mut writer = BlockWriter::new(&coder, &name, &mol);
     if writer.size() != 18 {
         return Err("another size".into());
     }

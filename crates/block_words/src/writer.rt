@@ -34,7 +34,7 @@ struct Parts {
 pub struct BlockWriter<'a> {
     name: &'a Name,
     mol: &'a Mol,
-    coder: Coder,
+    coder: &'a Coder,
     // of the atom whose code was asked last, and at first of the first atom
     held: AtomCodes,
 }
@@ -47,21 +47,19 @@ impl<'a> Model for BlockWriter<'a> {
 
     ghost view = { λ w. record { name = w.name.now; mol = w.mol.now } };
 
-    ghost invariant = { λ w. IsWriter w.name.now w.mol.now w.coder w.held };
+    ghost invariant = { λ w. IsWriter w.name.now w.mol.now w.coder.now w.held };
 }
 
 impl<'a> BlockWriter<'a> {
-    /// Makes ready for the name and the molecule, at the cost of the atoms and bonds and of the codes
-    /// of one atom.
-    pub fn new(name: &'a Name, mol: &'a Mol) -> BlockWriter<'a>
+    /// Makes ready for the name and the molecule that the coder was loaded with, at the cost of the codes of one atom.
+    pub fn new(coder: &'a Coder, name: &'a Name, mol: &'a Mol) -> BlockWriter<'a>
         requires marked { IsMarked mol.now }
+        requires loaded { IsCoder mol.now coder.now }
         ensures { result ≡ record { name = name.now; mol = mol.now } }
     {
         // that they keep their rules
         let _bytes = name.bytes();
         let _atoms = mol.atoms();
-        let mut coder = Coder::new();
-        coder.load(mol);
         let codes = coder.codes(mol, 1);
         BlockWriter {
             name,
@@ -107,7 +105,7 @@ impl<'a> BlockWriter<'a> {
     {
         let mol = self.mol;
         let atom = (place / 5 + 1) as u16;
-        turn_to(&mut self.held, &self.coder, mol, atom);
+        turn_to(&mut self.held, self.coder, mol, atom);
         self.held.codes.words[(place % 5) as usize]
     }
 }

@@ -3,35 +3,11 @@
 //! records, and runs scripts that load, withdraw and search records.
 #![tactic(auto)]
 
-mod answer;
-mod check_taker;
-#[cfg(test)]
-mod check_tests;
-mod codes;
-mod commands;
-mod find_taker;
-mod job_files;
-mod list;
-mod make;
-#[cfg(test)]
-mod make_tests;
-#[cfg(test)]
-mod query_tests;
-mod read_back;
-mod run;
 #[cfg(test)]
 mod run_tests;
-mod search;
-mod stop;
-mod summary_taker;
-mod taker;
-#[cfg(test)]
-mod tests;
-mod tool;
 mod top;
-mod vec_sink;
 
-use crate::stop::Stop;
+use command_ends::{Stop, refuse};
 use outside::{DirShelf, OutSink};
 use std::io::ErrorKind;
 use std::process::ExitCode;
@@ -41,11 +17,9 @@ fn main(rt: HostRuntime) -> ExitCode {
     let mut shelf = DirShelf::new(rt.alloc(), &rt);
     let mut out = OutSink::new(&rt);
     let status = match words_of(&rt) {
-        Ok(words) => top::htss(&rt, rt.alloc(), &words, &mut shelf, &mut out),
-        Err(error) if error.kind() == ErrorKind::OutOfMemory => {
-            tool::refuse(&mut out, Stop::Memory)
-        }
-        Err(_) => tool::refuse(&mut out, Stop::Usage),
+        Ok(words) => top::htss(&rt, rt.alloc(), &words, &mut shelf, &mut out).status,
+        Err(error) if error.kind() == ErrorKind::OutOfMemory => refuse(&mut out, Stop::Memory),
+        Err(_) => refuse(&mut out, Stop::Usage),
     };
     ExitCode::from(status)
 }

@@ -11,6 +11,7 @@ ghost use Rattle.loader.specs.Stages.{next_block, left_in, staging, after_words,
 
 use block_words::BlockWriter;
 use board::{Answers, Board, Caller, Staged, next_place, note_answers, seal_block, store_word};
+use env_code::Coder;
 use htss_defs::{Mol, Name};
 use std::marker::Brand;
 
@@ -41,7 +42,9 @@ pub fn stage(
     ensures still { IsLoader caller.new }
     ensures refused { IfErr result (λ e. caller.new ≡ with_account caller.old (after_answer caller.old.account (refusal e ∷ []))) }
 {
-    let mut writer = BlockWriter::new(name, mol);
+    let mut coder = Coder::new();
+    coder.load(mol);
+    let mut writer = BlockWriter::new(&coder, name, mol);
     let need = writer.size();
     let left = board.shape().room.saturating_sub(caller.used());
     if left < need {

@@ -1,151 +1,298 @@
--- The jobs of a group, one after the other, and a group after others.
-use Rattle.std.proofs.Common.{◌≡◌, ℕ, ◌+◌, ◌%◌, ◌<◌, ◌≤◌, List, [], ◌∷◌, ◌++◌, length, map, get_or, refl, sym, ap, subst, ◌∙◌, All, arith, append_assoc}
-use Rattle.std.specs.List.{flat_map}
-use Rattle.std.proofs.lemmas.Grind.{flat_map-append}
-use Rattle.std.proofs.lemmas.List.{append-nil, get_or-map, length-map, map-append}
-use Rattle.std.proofs.lemmas.List.Concat.{flat_map-cons}
-use Rattle.std.proofs.lemmas.List.Elements.{All-append, All-nil, All-push}
-use Rattle.htss_defs.specs.declared.history.Event.{Event}
+-- The jobs of a group: what each worker did of them, together.
+use Rattle.std.proofs.Common.{◌≡◌, ℕ, zero, suc, ◌+◌, ◌%◌, ◌<◌, Bool, true, false, MatchBool, List, [], ◌∷◌, ◌++◌, length, map, set, take, drop, get_or, All, refl, sym, ap, subst, ◌∙◌, arith}
+use Rattle.std.proofs.lemmas.List.{length-map, map-append}
+use Rattle.std.proofs.lemmas.List.Elements.{All-nil, All-cons}
+use Rattle.std.proofs.lemmas.Nat.{mod_below}
+use mathlib.Core.Option.{some, some-injective, some-ne-none}
+use lib.ListN.{get_elem?, get_or-map}
+use lib.Seq.{map-set}
 use Rattle.htss_defs.specs.declared.shape.Shape.{Shape}
-use Rattle.script_text.specs.declared.script.Job.{Job}
+use Rattle.htss_defs.specs.declared.shape.Field.TheVariants.{Loaders, Searchers}
+use Rattle.htss_defs.specs.Shapes.{IsShape}
 use Rattle.script_text.specs.declared.script.Group.{Group}
+use Rattle.script_text.specs.declared.script.Job.{Job}
 use Rattle.script_text.specs.declared.script.Order.{Order}
 use Rattle.script_text.specs.declared.script.Order.TheVariants.{Load, Withdraw, Search}
-use Rattle.script_text.specs.FilesByLine.{bytes_at}
 use Rattle.report_text.specs.declared.report.Block.{Block}
-use Rattle.report_rules.specs.Dealing.{Dealt, caller_of, dealt, dealt_from, dealt_group, loads_in, searches_in}
-use Rattle.report_rules.specs.Reports.{Done, done_block, done_lines, IsAnswerTo, IsByItsFile, IsToldBy}
-use Rattle.script_run.specs.Groups.{AreSameFor, IsPlainBlock}
-use Rattle.script_run.specs.Steps.{AreJobsDone, AreKept, IsJobDone, Keeps, caller_for}
-use Rattle.script_run.proofs.Steps.{keeps-both, keeps-none}
+use Rattle.report_rules.specs.Answers.{answers_of}
+use Rattle.report_rules.specs.Dealing.{Caller, Dealt, caller_of, dealt_from, loads_in, searches_in}
+use Rattle.report_rules.specs.Reports.{Done, done_block}
+use Rattle.report_rules.specs.Rules.{is_same}
+use Rattle.board.specs.Seated.{Place, Seated}
+use Rattle.board_core.specs.declared.account.Account.{Account}
+use Rattle.board_core.proofs.Lists.{inside}
+use Rattle.board_jobs.proofs.Places.{at_map, map_back}
+use Rattle.board_jobs.specs.Answering.{who_of}
+use Rattle.board_jobs.specs.Ends.{HaveGoneOn, caller_at}
+use Rattle.board_jobs.specs.Groups.{GroupIsDone}
+use Rattle.board_jobs.specs.Jobs.{IsJobBroken}
+use Rattle.script_run.specs.declared.gate.Worker.{Worker}
+use Rattle.script_run.specs.declared.walk.Outcome.{Outcome}
+use Rattle.script_run.specs.Meeting.{most_seen, seen_at}
+use Rattle.script_run.specs.Merging.{in_turn, places_from, places_of}
+use Rattle.script_run.specs.Walking.{Broke, DidAll, DidJobs, DidOwn}
+use Rattle.script_run.specs.Workers.{accounts_of, callers_of}
+use Rattle.script_run.specs.Working.{AreCallers, OwnDone, OwnStep}
+use Rattle.script_run.proofs.Callers.{have_met, still_callers, who_there}
+use Rattle.script_run.proofs.Merges.{blocks_in, same_places}
+use Rattle.script_run.proofs.Places.{IsSeat, agree, loader_seat, one_there, or_there, searcher_seat, there}
+use Rattle.script_run.proofs.Together.{AreOwn, together}
+use Rattle.script_run.proofs.Walks.{answered_append}
 
--- ---- which caller does a job
+-- ---- what each worker did
 
--- how many loads and withdrawals, and how many searches, the jobs are
-abbrev pub loads_of : List Job → ℕ
-loads_of [] = 0
-loads_of (job ∷ jobs) = loads_in job.order + loads_of jobs
+pub did_count : (b : Place) (files : List (ℕ × List ℕ)) (budget : ℕ) (jobs : List Job) (cs ds : List Seated) (os : List Outcome)
+    → DidAll b files budget jobs cs ds os → (length ds ≡ length cs) × (length os ≡ length cs)
+did_count b files budget jobs [] [] [] did = (refl, refl)
+did_count b files budget jobs (c ∷ cs) (d ∷ ds) (o ∷ os) did =
+    let more = did_count b files budget jobs cs ds os did.1 in (ap suc more.0, ap suc more.1)
+did_count b files budget jobs [] [] (o ∷ os) did = absurd did
+did_count b files budget jobs [] (d ∷ ds) [] did = absurd did
+did_count b files budget jobs [] (d ∷ ds) (o ∷ os) did = absurd did
+did_count b files budget jobs (c ∷ cs) [] [] did = absurd did
+did_count b files budget jobs (c ∷ cs) [] (o ∷ os) did = absurd did
+did_count b files budget jobs (c ∷ cs) (d ∷ ds) [] did = absurd did
 
-abbrev pub searches_of : List Job → ℕ
-searches_of [] = 0
-searches_of (job ∷ jobs) = searches_in job.order + searches_of jobs
+-- the worker at a place
+pub did_at : (b : Place) (files : List (ℕ × List ℕ)) (budget : ℕ) (jobs : List Job) (cs ds : List Seated) (os : List Outcome) → DidAll b files budget jobs cs ds os
+    → (i : ℕ) (c d : Seated) (o : Outcome) → get_elem? cs i ≡ some c → get_elem? ds i ≡ some d → get_elem? os i ≡ some o → DidOwn b files budget jobs c d o
+did_at b files budget jobs [] ds os did i c d o ec ed eo = absurd (some-ne-none c (sym ec))
+did_at b files budget jobs (x ∷ xs) [] os did i c d o ec ed eo = absurd (some-ne-none d (sym ed))
+did_at b files budget jobs (x ∷ xs) (y ∷ ys) [] did i c d o ec ed eo = absurd (some-ne-none o (sym eo))
+did_at b files budget jobs (x ∷ xs) (y ∷ ys) (p ∷ ps) did zero c d o ec ed eo =
+    subst (λ (z : Outcome). DidOwn b files budget jobs c d z) (some-injective p o eo)
+    (subst (λ (z : Seated). DidOwn b files budget jobs c z p) (some-injective y d ed)
+    (subst (λ (z : Seated). DidOwn b files budget jobs z y p) (some-injective x c ec) did.0))
+did_at b files budget jobs (x ∷ xs) (y ∷ ys) (p ∷ ps) did (suc i) c d o ec ed eo = did_at b files budget jobs xs ys ps did.1 i c d o ec ed eo
 
-pub loads_in-few : (order : Order) → loads_in order ≤ 1
-loads_in-few (Load file) = omega arith
-loads_in-few (Withdraw number) = omega arith
-loads_in-few (Search file budget) = omega arith
+-- each stands at its place as before
+pub worked_callers : (b : Place) (files : List (ℕ × List ℕ)) (budget : ℕ) (jobs : List Job) (cs ds : List Seated) (os : List Outcome)
+    → AreCallers b cs → DidAll b files budget jobs cs ds os → AreCallers b ds
+worked_callers b files budget jobs cs ds os all did =
+    let count = did_count b files budget jobs cs ds os did in
+    still_callers b cs ds all count.0
+    (λ i c d ec ed.
+    let o = there os i (omega (arith, inside cs i c ec, count.1)) in
+    let own = did_at b files budget jobs cs ds os did i c d o.0 ec ed o.1 in
+    (own.can, own.who))
 
-pub loads_of-push : (jobs : List Job) (job : Job) → loads_of (jobs ++ job ∷ []) ≡ loads_of jobs + loads_in job.order
-loads_of-push [] job = omega arith
-loads_of-push (first ∷ jobs) job = omega (arith, loads_of-push jobs job)
+-- ---- each has gone on by answers
 
-abbrev pub dealt_as : Shape → ℕ → ℕ → ℕ → Job → Dealt
-dealt_as shape group loads searches job = record { group = group; caller = caller_of shape loads searches job.order; job = job }
+step_answers : (k : Shape) (files : List (ℕ × List ℕ)) (budget : ℕ) (c : Caller) (a b : Account) (job : Dealt) (own : List Done) (Rest : Account → List Done → Type 0)
+    → ((between : Account) (more : List Done) → Rest between more → IsJobBroken k c between b) → (t : Bool) → OwnStep k files budget c a job own Rest t → IsJobBroken k c a b
+step_answers k files budget c a b job own Rest go true step =
+    let rest = go step.2 step.1 step.7 in
+    (answers_of step.0.answer ++ rest.0, answered_append k c a step.2 b (answers_of step.0.answer) rest.0 step.6 rest.1)
+step_answers k files budget c a b job own Rest go false step = go a own step
 
-dealt_from-push : (shape : Shape) (group loads searches : ℕ) (jobs : List Job) (job : Job)
-    → dealt_from shape group loads searches (jobs ++ job ∷ []) ≡ dealt_from shape group loads searches jobs ++ dealt_as shape group (loads + loads_of jobs) (searches + searches_of jobs) job ∷ []
-dealt_from-push shape group loads searches [] job =
-    let loaded : loads ≡ loads + 0 = omega arith in
-    let searched : searches ≡ searches + 0 = omega arith in
-    ap (λ n. dealt_as shape group n searches job ∷ []) loaded ∙ ap (λ n. dealt_as shape group (loads + 0) n job ∷ []) searched
-dealt_from-push shape group loads searches (first ∷ jobs) job =
-    let loaded : loads + loads_in first.order + loads_of jobs ≡ loads + (loads_in first.order + loads_of jobs) = omega arith in
-    let searched : searches + searches_in first.order + searches_of jobs ≡ searches + (searches_in first.order + searches_of jobs) = omega arith in
-    let front = dealt_from shape group (loads + loads_in first.order) (searches + searches_in first.order) jobs in
-    ap (λ rest. dealt_as shape group loads searches first ∷ rest)
-    (dealt_from-push shape group (loads + loads_in first.order) (searches + searches_in first.order) jobs job
-    ∙ ap (λ n. front ++ dealt_as shape group n (searches + searches_in first.order + searches_of jobs) job ∷ []) loaded
-    ∙ ap (λ n. front ++ dealt_as shape group (loads + (loads_in first.order + loads_of jobs)) n job ∷ []) searched)
+own_answers : (k : Shape) (files : List (ℕ × List ℕ)) (budget : ℕ) (c : Caller) (a b : Account) (jobs : List Dealt) (own : List Done)
+    → OwnDone k files budget c a b jobs own → IsJobBroken k c a b
+own_answers k files budget c a b [] own did = ([], did.0)
+own_answers k files budget c a b (job ∷ jobs) own did =
+    step_answers k files budget c a b job own (λ between more. OwnDone k files budget c between b jobs more)
+    (λ between more rest. own_answers k files budget c between b jobs more rest) (is_same job.caller c) did
 
-pub same_caller : (shape : Shape) (loads searches : ℕ) (order : Order) → caller_for (1 + loads % shape.loaders) (1 + searches % shape.searchers) order ≡ caller_of shape loads searches order
-same_caller shape loads searches (Load file) = refl
-same_caller shape loads searches (Withdraw number) = refl
-same_caller shape loads searches (Search file budget) = refl
+either_answers : (k : Shape) (files : List (ℕ × List ℕ)) (budget : ℕ) (jobs : List Job) (a b : Account) (blocks : List Block) (whole : Bool)
+    → MatchBool whole (DidJobs k files budget jobs a b blocks) (Broke k a b) → Broke k a b
+either_answers k files budget jobs a b blocks true did = λ c who. let own = did 0 c who in own_answers k files budget c a b (dealt_from k 0 0 0 jobs) own.0 own.1
+either_answers k files budget jobs a b blocks false did = did
 
--- ---- the jobs of a group
+module _ {G : Type 0} where
+  as_many_accounts : (ws : List (Worker G)) → length (accounts_of ws) ≡ length (callers_of ws)
+  as_many_accounts [] = refl
+  as_many_accounts (w ∷ ws) = ap suc (as_many_accounts ws)
 
-pub jobs-none : (files : List (ℕ × List ℕ)) (shape : Shape) (budget log group : ℕ) (events : List Event) → AreJobsDone files shape budget log group [] events events []
-jobs-none files shape budget log group events = record { done = []; dealt_are = refl; by_files = All-nil (IsByItsFile files budget); blocks_are = refl; plain = All-nil IsPlainBlock; keeps = keeps-none log events }
+  pub gone_on : (b : Place) (files : List (ℕ × List ℕ)) (budget : ℕ) (jobs : List Job) (ws vs : List (Worker G)) (os : List Outcome)
+      → AreCallers b (callers_of ws) → DidAll b files budget jobs (callers_of ws) (callers_of vs) os → HaveGoneOn b.shape (accounts_of ws) (accounts_of vs)
+  gone_on b files budget jobs ws vs os all did =
+      let cs : List Seated = callers_of ws in
+      let ds : List Seated = callers_of vs in
+      let count = did_count b files budget jobs cs ds os did in
+      record {
+        count = as_many_accounts vs ∙ count.0 ∙ sym (as_many_accounts ws);
+        each = λ i x y before after.
+            let w = map_back (λ (z : Worker G). z.caller.account) ws i x before in
+            let v = map_back (λ (z : Worker G). z.caller.account) vs i y after in
+            let c : get_elem? cs i ≡ some w.0.caller = at_map (λ (z : Worker G). z.caller) ws i w.0 w.1 in
+            let d : get_elem? ds i ≡ some v.0.caller = at_map (λ (z : Worker G). z.caller) vs i v.0 v.1 in
+            let o = there os i (omega (arith, inside cs i w.0.caller c, count.1)) in
+            let own = did_at b files budget jobs cs ds os did i w.0.caller v.0.caller o.0 c d o.1 in
+            let answers : IsJobBroken b.shape (caller_at b.shape i) w.0.caller.account v.0.caller.account =
+            either_answers b.shape files budget jobs w.0.caller.account v.0.caller.account o.0.blocks.items o.0.whole own.did (caller_at b.shape i)
+            (who_there b cs all i w.0.caller c) in
+            subst (λ (z : Account). IsJobBroken b.shape (caller_at b.shape i) x z) v.2
+            (subst (λ (z : Account). IsJobBroken b.shape (caller_at b.shape i) z v.0.caller.account) w.2 answers);
+      }
 
-pub jobs-more : (files : List (ℕ × List ℕ)) (shape : Shape) (budget log group : ℕ) (jobs : List Job) (job : Job) (start old new : List Event) (blocks : List Block) (block : Block)
-    → AreJobsDone files shape budget log group jobs start old blocks
-    → IsJobDone files budget log (caller_of shape (loads_of jobs) (searches_of jobs) job.order) job old new block
-    → AreJobsDone files shape budget log group (jobs ++ job ∷ []) start new (blocks ++ block ∷ [])
-jobs-more files shape budget log group jobs job start old new blocks block before step =
-    let dealing = dealt_as shape group (loads_of jobs) (searches_of jobs) job in
-    let one : Done = record { dealt = dealing; answer = step.answer } in
-    let counted : dealt_as shape group (0 + loads_of jobs) (0 + searches_of jobs) job ≡ dealing =
-    let loaded : 0 + loads_of jobs ≡ loads_of jobs = omega arith in
-    let searched : 0 + searches_of jobs ≡ searches_of jobs = omega arith in
-    ap (λ n. dealt_as shape group n (0 + searches_of jobs) job) loaded ∙ ap (λ n. dealt_as shape group (loads_of jobs) n job) searched in
-    let last : flat_map done_lines (one ∷ []) ≡ done_lines one = flat_map-cons done_lines one [] ∙ append-nil (done_lines one) in
-    record {
-      done = before.done ++ one ∷ [];
-      dealt_are =
-          map-append (λ (d : Done). d.dealt) before.done (one ∷ []) ∙ ap (λ first. first ++ dealing ∷ []) before.dealt_are
-          ∙ ap (λ d. dealt_from shape group 0 0 jobs ++ d ∷ []) (sym counted) ∙ sym (dealt_from-push shape group 0 0 jobs job);
-      by_files = All-push (IsByItsFile files budget) before.done one before.by_files step.by_file;
-      blocks_are =
-          ap (λ first. first ++ block ∷ []) before.blocks_are ∙ ap (λ b. map done_block before.done ++ b ∷ []) step.block_is
-          ∙ sym (map-append done_block before.done (one ∷ []));
-      plain = All-push IsPlainBlock blocks block before.plain step.plain;
-      keeps = subst (λ lines. Keeps log start new lines) (sym (flat_map-append done_lines before.done (one ∷ [])))
-          (keeps-both log start old new (flat_map done_lines before.done) (flat_map done_lines (one ∷ [])) before.keeps
-          (subst (λ lines. Keeps log old new lines) (sym last) (step.answers.keeps group)));
-    }
+-- ---- where all did their jobs
 
--- ---- a group after others
+-- what the caller at this place did of the jobs, and its blocks tell it
+record IsOwnAt (k : Shape) (files : List (ℕ × List ℕ)) (budget : ℕ) (jobs : List Dealt) (before after : List Account) (blocks : List (List Block)) (i : ℕ) (own : List Done) : Type 0 where
+  did : (a b : Account) → get_elem? before i ≡ some a → get_elem? after i ≡ some b → OwnDone k files budget (caller_at k i) a b jobs own
+  told : (l : List Block) → get_elem? blocks i ≡ some l → l ≡ map done_block own
 
-dealt-push : (shape : Shape) (number : ℕ) (before : List Group) (group : Group)
-    → dealt shape number (before ++ group ∷ []) ≡ dealt shape number before ++ dealt_group shape (number + length before) group
-dealt-push shape number [] group =
-    let at : number ≡ number + 0 = omega arith in
-    append-nil (dealt_group shape number group) ∙ ap (λ n. dealt_group shape n group) at
-dealt-push shape number (first ∷ before) group =
-    let at : number + 1 + length before ≡ number + length (first ∷ before) = omega arith in
-    ap (λ rest. dealt_group shape number first ++ rest) (dealt-push shape (number + 1) before group ∙ ap (λ n. dealt shape (number + 1) before ++ dealt_group shape n group) at)
-    ∙ sym (append_assoc (dealt_group shape number first) (dealt shape (number + 1) before) (dealt_group shape (number + length (first ∷ before)) group))
+-- a list of what there is at each place
+module _ {A : Type 0} where
+  at_places : (P : ℕ → A → Type 0) (x : A) (xs : List A) → P 0 x → ((i : ℕ) (a : A) → get_elem? xs i ≡ some a → P (suc i) a) → (i : ℕ) (a : A) → get_elem? (x ∷ xs) i ≡ some a → P i a
+  at_places P x xs first rest zero a e = subst (λ (z : A). P 0 z) (some-injective x a e) first
+  at_places P x xs first rest (suc i) a e = rest i a e
 
-jobs_dealt : (shape : Shape) (group loads searches : ℕ) (jobs : List Job) → map (λ (d : Dealt). d.job) (dealt_from shape group loads searches jobs) ≡ jobs
-jobs_dealt shape group loads searches [] = refl
-jobs_dealt shape group loads searches (job ∷ jobs) = ap (λ rest. job ∷ rest) (jobs_dealt shape group (loads + loads_in job.order) (searches + searches_in job.order) jobs)
+  listed : (P : ℕ → A → Type 0) (n : ℕ) → ((i : ℕ) → i < n → (a : A) × P i a) → (l : List A) × (length l ≡ n) × ((i : ℕ) (a : A) → get_elem? l i ≡ some a → P i a)
+  listed P zero each = ([], refl, λ i a e. absurd (some-ne-none a (sym e)))
+  listed P (suc n) each =
+      let first = each 0 (omega arith) in
+      let rest = listed (λ i. P (suc i)) n (λ i below. each (suc i) (omega arith)) in
+      (first.0 ∷ rest.0, ap suc rest.1, at_places P first.0 rest.0 first.1 rest.2)
 
-jobs_done : (done : List Done) → map (λ (d : Done). d.dealt.job) done ≡ map (λ (d : Dealt). d.job) (map (λ (d : Done). d.dealt) done)
-jobs_done [] = refl
-jobs_done (first ∷ done) = ap (λ rest. first.dealt.job ∷ rest) (jobs_done done)
+at_whole : (P Q : Type 0) (t : Bool) → t ≡ true → MatchBool t P Q → P
+at_whole P Q t e did = subst (λ (z : Bool). MatchBool z P Q) e did
 
--- what was answered by the files is so by others that have the same bytes for these jobs
-by-others : (files others : List (ℕ × List ℕ)) (budget : ℕ) (jobs : List Job) (done : List Done) → map (λ (d : Done). d.dealt.job) done ≡ jobs → AreSameFor others files jobs
-    → All (IsByItsFile files budget) done → All (IsByItsFile others budget) done
-by-others files others budget jobs done are same by k d less =
-    let one = get_or done k d in
-    let count : length (map (λ (d : Done). d.dealt.job) done) ≡ length done = length-map done (λ (d : Done). d.dealt.job) in
-    let within : k < length jobs = omega (arith, less, count, ap length are) in
-    let job : get_or jobs k d.dealt.job ≡ one.dealt.job = ap (λ js. get_or js k d.dealt.job) (sym are) ∙ get_or-map (λ (d : Done). d.dealt.job) done k d d.dealt.job less in
-    let here = subst (λ (j : Job). bytes_at others j.line ≡ bytes_at files j.line) job (same k d.dealt.job within) in
-    subst (λ found. IsAnswerTo found budget one.dealt.job.order one.answer) (sym here) (by k d less)
+-- the one at this place did its jobs
+own_told : (k : Shape) (files : List (ℕ × List ℕ)) (budget number : ℕ) (jobs : List Job) (before after : List Account) (blocks : List (List Block)) (i : ℕ) (a b : Account) (l : List Block)
+    → get_elem? before i ≡ some a → get_elem? after i ≡ some b → get_elem? blocks i ≡ some l → who_of (caller_at k i) ≡ a.who → DidJobs k files budget jobs a b l
+    → (own : List Done) × IsOwnAt k files budget (dealt_from k number 0 0 jobs) before after blocks i own
+own_told k files budget number jobs before after blocks i a b l ea eb el who did =
+    let dealt : List Dealt = dealt_from k number 0 0 jobs in
+    let mine = did number (caller_at k i) who in (
+      mine.0,
+      record {
+        did = λ x y ex ey.
+            subst (λ (z : Account). OwnDone k files budget (caller_at k i) x z dealt mine.0) (one_there after i b y eb ey)
+            (subst (λ (z : Account). OwnDone k files budget (caller_at k i) z b dealt mine.0) (one_there before i a x ea ex) mine.1);
+        told = λ m em. one_there blocks i m l em el ∙ mine.2;
+      },
+    )
 
-pub group-told : (files others : List (ℕ × List ℕ)) (shape : Shape) (budget log : ℕ) (old new : List Event) (before : List Group) (group : Group) (earlier blocks : List Block)
-    → shape.log ≡ log
-    → AreJobsDone files shape budget log (1 + length before) group.jobs old new blocks
-    → AreSameFor others files group.jobs
-    → IsToldBy before others shape budget old earlier
-    → IsToldBy (before ++ group ∷ []) others shape budget new (earlier ++ blocks)
-group-told files others shape budget log old new before group earlier blocks size mine same told =
-    let kept : AreKept shape old (flat_map done_lines told.done) = record { rules = told.rules; named = told.named } in
-    let both : AreKept shape new (flat_map done_lines (told.done ++ mine.done)) =
-    subst (λ lines. AreKept shape new lines) (sym (flat_map-append done_lines told.done mine.done)) (mine.keeps.kept shape (flat_map done_lines told.done) size kept) in
-    let jobs : map (λ (d : Done). d.dealt.job) mine.done ≡ group.jobs =
-    jobs_done mine.done ∙ ap (λ ds. map (λ (d : Dealt). d.job) ds) mine.dealt_are ∙ jobs_dealt shape (1 + length before) 0 0 group.jobs in
-    record {
-      done = told.done ++ mine.done;
-      jobs =
-          map-append (λ (d : Done). d.dealt) told.done mine.done ∙ ap (λ first. first ++ map (λ (d : Done). d.dealt) mine.done) told.jobs
-          ∙ ap (λ rest. dealt shape 1 before ++ rest) mine.dealt_are ∙ sym (dealt-push shape 1 before group);
-      by_files = All-append (IsByItsFile others budget) told.done mine.done told.by_files (by-others files others budget group.jobs mine.done jobs same mine.by_files);
-      blocks_are =
-          ap (λ first. first ++ blocks) told.blocks_are ∙ ap (λ rest. map done_block told.done ++ rest) mine.blocks_are
-          ∙ sym (map-append done_block told.done mine.done);
-      rules = both.rules;
-      named = both.named;
-    }
+module _ {G : Type 0} where
+  own_at : (b : Place) (files : List (ℕ × List ℕ)) (budget number : ℕ) (jobs : List Job) (ws vs : List (Worker G)) (os : List Outcome)
+      → AreCallers b (callers_of ws) → DidAll b files budget jobs (callers_of ws) (callers_of vs) os → All (λ (o : Outcome). o.whole ≡ true) os → (i : ℕ) → i < length ws
+      → (own : List Done) × IsOwnAt b.shape files budget (dealt_from b.shape number 0 0 jobs) (accounts_of ws) (accounts_of vs) (map blocks_in os) i own
+  own_at b files budget number jobs ws vs os all did whole i below =
+      let cs : List Seated = callers_of ws in
+      let ds : List Seated = callers_of vs in
+      let count = did_count b files budget jobs cs ds os did in
+      let w = there ws i below in
+      let c : get_elem? cs i ≡ some w.0.caller = at_map (λ (z : Worker G). z.caller) ws i w.0 w.1 in
+      let v = there vs i (omega (arith, below, count.0, length-map ws (λ (z : Worker G). z.caller), length-map vs (λ (z : Worker G). z.caller))) in
+      let d : get_elem? ds i ≡ some v.0.caller = at_map (λ (z : Worker G). z.caller) vs i v.0 v.1 in
+      let o = there os i (omega (arith, inside cs i w.0.caller c, count.1)) in
+      let own = did_at b files budget jobs cs ds os did i w.0.caller v.0.caller o.0 c d o.1 in
+      let full : o.0.whole ≡ true = subst (λ (z : Outcome). z.whole ≡ true) (or_there os i o.0 o.0 o.1) (whole i o.0 (inside os i o.0 o.1)) in
+      own_told b.shape files budget number jobs (accounts_of ws) (accounts_of vs) (map blocks_in os) i w.0.caller.account v.0.caller.account o.0.blocks.items
+      (at_map (λ (z : Worker G). z.caller.account) ws i w.0 w.1) (at_map (λ (z : Worker G). z.caller.account) vs i v.0 v.1) (at_map blocks_in os i o.0 o.1) (who_there b cs all i w.0.caller c)
+      (at_whole (DidJobs b.shape files budget jobs w.0.caller.account v.0.caller.account o.0.blocks.items) (Broke b.shape w.0.caller.account v.0.caller.account) o.0.whole full own.did)
+
+  -- the list of each worker's own, and its blocks tell it
+  own_lists : (b : Place) (files : List (ℕ × List ℕ)) (budget number : ℕ) (jobs : List Job) (ws vs : List (Worker G)) (os : List Outcome)
+      → AreCallers b (callers_of ws) → DidAll b files budget jobs (callers_of ws) (callers_of vs) os → All (λ (o : Outcome). o.whole ≡ true) os
+      → (owns : List (List Done)) × AreOwn b.shape files budget (dealt_from b.shape number 0 0 jobs) (accounts_of ws) (accounts_of vs) owns
+      × (map blocks_in os ≡ map (λ (own : List Done). map done_block own) owns)
+  own_lists b files budget number jobs ws vs os all did whole =
+      let dealt : List Dealt = dealt_from b.shape number 0 0 jobs in
+      let P : ℕ → List Done → Type 0 = IsOwnAt b.shape files budget dealt (accounts_of ws) (accounts_of vs) (map blocks_in os) in
+      let owns = listed P (length ws) (own_at b files budget number jobs ws vs os all did whole) in
+      let count = did_count b files budget jobs (callers_of ws) (callers_of vs) os did in
+      let workers = length-map ws (λ (z : Worker G). z.caller) in
+      let lists : length (map blocks_in os) ≡ length (map (λ (own : List Done). map done_block own) owns.0) =
+      length-map os blocks_in ∙ count.1 ∙ workers ∙ sym owns.1 ∙ sym (length-map owns.0 (λ (own : List Done). map done_block own)) in (
+        owns.0,
+        record {
+          count = as_many_accounts vs ∙ count.0 ∙ sym (as_many_accounts ws);
+          lists = owns.1 ∙ sym workers ∙ sym (as_many_accounts ws);
+          each = λ i x y own before after at. (owns.2 i own at).did x y before after;
+        },
+        agree (map blocks_in os) (map (λ (own : List Done). map done_block own) owns.0) lists
+            (λ i x y ex ey.
+            let own = map_back (λ (z : List Done). map done_block z) owns.0 i y ey in
+            (owns.2 i own.0 own.1).told x ex ∙ own.2),
+      )
+
+-- each job is dealt to one of the callers
+seat_for : (k : Shape) (n loads searches : ℕ) (order : Order) → IsShape k → n ≡ k.loaders + k.searchers → IsSeat k n (caller_of k loads searches order)
+seat_for k n loads searches (Load file) shape count = loader_seat k (loads % k.loaders) n (mod_below loads k.loaders (shape Loaders).0) (omega arith)
+seat_for k n loads searches (Withdraw number) shape count = loader_seat k (loads % k.loaders) n (mod_below loads k.loaders (shape Loaders).0) (omega arith)
+seat_for k n loads searches (Search file budget) shape count = searcher_seat k (searches % k.searchers) n (mod_below searches k.searchers (shape Searchers).0) (omega arith)
+
+seats_for : (k : Shape) (n number loads searches : ℕ) (jobs : List Job) → IsShape k → n ≡ k.loaders + k.searchers → All (λ (j : Dealt). IsSeat k n j.caller) (dealt_from k number loads searches jobs)
+seats_for k n number loads searches [] shape count = All-nil (λ (j : Dealt). IsSeat k n j.caller)
+seats_for k n number loads searches (job ∷ jobs) shape count =
+    All-cons (λ (j : Dealt). IsSeat k n j.caller) (record { group = number; caller = caller_of k loads searches job.order; job = job })
+    (dealt_from k number (loads + loads_in job.order) (searches + searches_in job.order) jobs) (seat_for k n loads searches job.order shape count)
+    (seats_for k n number (loads + loads_in job.order) (searches + searches_in job.order) jobs shape count)
+
+-- what is known of the outcomes as they were lent, which are all
+module _ {A : Type 0} where
+  first_ones : (xs ys : List A) → take (length xs) (xs ++ ys) ≡ xs
+  first_ones [] ys = refl
+  first_ones (x ∷ xs) ys = ap (λ (l : List A). x ∷ l) (first_ones xs ys)
+
+  lent_all : (lent xs ys : List A) (n : ℕ) → lent ≡ take n (xs ++ ys) → n ≡ length xs → lent ≡ xs
+  lent_all lent xs ys n part all = part ∙ ap (λ (m : ℕ). take m (xs ++ ys)) all ∙ first_ones xs ys
+
+pub all_whole : (lent os more : List Outcome) (n : ℕ) → lent ≡ take n (os ++ more) → n ≡ length os → All (λ (o : Outcome). o.whole ≡ true) lent → All (λ (o : Outcome). o.whole ≡ true) os
+all_whole lent os more n part all whole = subst (λ (l : List Outcome). All (λ (o : Outcome). o.whole ≡ true) l) (lent_all lent os more n part all) whole
+
+pub all_merged : (k shape : Shape) (jobs : List Job) (blocks : List Block) (lent os more : List Outcome) (n : ℕ) → lent ≡ take n (os ++ more) → n ≡ length os → shape ≡ k
+    → blocks ≡ in_turn (places_from shape 0 0 jobs) (map blocks_in lent) → blocks ≡ in_turn (places_from k 0 0 jobs) (map blocks_in os)
+all_merged k shape jobs blocks lent os more n part all same merged =
+    merged
+    ∙ ap (λ (s : Shape). in_turn (places_from s 0 0 jobs) (map blocks_in lent)) same
+    ∙ ap (λ (l : List Outcome). in_turn (places_from k 0 0 jobs) (map blocks_in l)) (lent_all lent os more n part all)
+
+-- what is taken in turn from lists that were mapped
+module _ {A B : Type 0} where
+  first_mapped : (f : A → B) (l : List A) → take 1 (map f l) ≡ map f (take 1 l)
+  first_mapped f [] = refl
+  first_mapped f (x ∷ xs) = refl
+
+  rest_mapped : (f : A → B) (l : List A) → drop 1 (map f l) ≡ map f (drop 1 l)
+  rest_mapped f [] = refl
+  rest_mapped f (x ∷ xs) = refl
+
+  -- the next is taken from its list
+  turn_mapped : (f : A → B) (place : ℕ) (places : List ℕ) (mapped : List (List B)) (q : List A) (rest : List (List A))
+      → get_or mapped place [] ≡ map f q → set mapped place (map f (drop 1 q)) ≡ map (λ (l : List A). map f l) rest
+      → in_turn places (map (λ (l : List A). map f l) rest) ≡ map f (in_turn places rest) → in_turn (place ∷ places) mapped ≡ map f (take 1 q ++ in_turn places rest)
+  turn_mapped f place places mapped q rest here after more =
+      ap (λ (x : List B). take 1 x ++ in_turn places (set mapped place (drop 1 x))) here
+      ∙ ap (λ (x : List B). x ++ in_turn places (set mapped place (drop 1 (map f q)))) (first_mapped f q)
+      ∙ ap (λ (x : List B). map f (take 1 q) ++ in_turn places (set mapped place x)) (rest_mapped f q)
+      ∙ ap (λ (x : List (List B)). map f (take 1 q) ++ in_turn places x) after
+      ∙ ap (λ (x : List B). map f (take 1 q) ++ x) more
+      ∙ sym (map-append f (take 1 q) (in_turn places rest))
+
+  in_turn_mapped : (f : A → B) (places : List ℕ) (queues : List (List A)) → in_turn places (map (λ (l : List A). map f l) queues) ≡ map f (in_turn places queues)
+  in_turn_mapped f [] queues = refl
+  in_turn_mapped f (place ∷ places) queues =
+      let F : List A → List B = λ l. map f l in
+      let q : List A = get_or queues place [] in
+      turn_mapped f place places (map F queues) q (set queues place (drop 1 q)) (get_or-map F queues place []) (sym (map-set F queues place (drop 1 q)))
+      (in_turn_mapped f places (set queues place (drop 1 q)))
+
+blocks_told : (places same : List ℕ) (queues : List (List Block)) (blocks : List Block) (owns : List (List Done)) (done : List Done) → blocks ≡ in_turn places queues
+    → queues ≡ map (λ (own : List Done). map done_block own) owns → places ≡ same → in_turn same owns ≡ done → blocks ≡ map done_block done
+blocks_told places same queues blocks owns done merged told is turns =
+    merged
+    ∙ ap (λ (l : List (List Block)). in_turn places l) told
+    ∙ in_turn_mapped done_block places owns
+    ∙ ap (λ (l : List ℕ). map done_block (in_turn l owns)) is
+    ∙ ap (λ (l : List Done). map done_block l) turns
+
+module _ {G : Type 0} where
+  -- the jobs are done, their blocks stand in their order, and the callers have met
+  pub group_done : (b : Place) (files : List (ℕ × List ℕ)) (budget number : ℕ) (group : Group) (ws xs ys : List (Worker G)) (os : List Outcome) (blocks : List Block)
+      → IsShape b.shape → AreCallers b (callers_of ws) → DidAll b files budget group.jobs (callers_of ws) (callers_of xs) os → All (λ (o : Outcome). o.whole ≡ true) os
+      → callers_of ys ≡ map (seen_at (most_seen 0 (callers_of xs))) (callers_of xs)
+      → blocks ≡ in_turn (places_from b.shape 0 0 group.jobs) (map blocks_in os)
+      → (front : ℕ) × (done : List Done) × GroupIsDone b.shape files budget number group (accounts_of ws) (accounts_of ys) front done × (blocks ≡ map done_block done)
+  group_done b files budget number group ws xs ys os blocks shape all did whole met merged =
+      let k : Shape = b.shape in
+      let before : List Account = accounts_of ws in
+      let owns = own_lists b files budget number group.jobs ws xs os all did whole in
+      let t = together k files budget (dealt_from k number 0 0 group.jobs) before (accounts_of xs) owns.0
+      (seats_for k (length before) number 0 0 group.jobs shape (as_many_accounts ws ∙ all.count)) owns.1 in (
+        most_seen 0 (callers_of xs),
+        t.done,
+        record { dealt_are = t.dealt_are; by_files = t.by_files; between = accounts_of xs; jobs = t.are_done; met = have_met xs ys met },
+        blocks_told (places_from k 0 0 group.jobs) (places_of k (dealt_from k number 0 0 group.jobs)) (map blocks_in os) blocks owns.0 t.done merged owns.2 (same_places k 0 number 0 0 group.jobs) t.turns,
+      )

@@ -1,7 +1,8 @@
-pub mod Kept
-pub mod Steps
-pub mod Registries
-pub mod Loads
-pub mod Orders
+pub mod Places
+pub mod Openings
+pub mod Together
+pub mod Meets
+pub mod Merges
+pub mod Walks
+pub mod Callers
 pub mod Groups
-pub mod Placed

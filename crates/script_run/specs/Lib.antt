@@ -1,2 +1,5 @@
-pub mod Groups
-pub mod Steps
+pub mod Working
+pub mod Meeting
+pub mod Merging
+pub mod Walking
+pub mod Workers

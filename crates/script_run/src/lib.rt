@@ -1,11 +1,14 @@
-//! The jobs of a script, done on a registry.
+//! The jobs of a group, done by workers beside each other.
 #![tactic(auto)]
 
-mod copies;
-mod jobs;
-mod load;
-mod plain;
+mod dealing;
+mod gate;
+mod group;
+mod meet;
+mod merge;
 #[cfg(test)]
 mod tests;
+mod walk;
 
-pub use plain::plain_group;
+pub use gate::{Gate, NoGate, Place, Worker};
+pub use group::run_group;

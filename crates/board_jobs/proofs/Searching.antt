@@ -1,0 +1,151 @@
+-- What a search answers, and what it leaves of the account.
+use Rattle.std.proofs.Common.{◌≡◌, ℕ, ◌+◌, ◌≤◌, List, [], ◌∷◌, length, map, sym, ap, subst, ◌∙◌, refl, arith}
+use Rattle.std.proofs.lemmas.List.{append-nil}
+use Rattle.std.specs.Prelude.{Ok, Err}
+use Rattle.htss_defs.specs.declared.shape.Shape.{Shape}
+use Rattle.htss_defs.specs.declared.history.Hit.{Hit}
+use Rattle.htss_defs.specs.QueryGraph.{QueryGraph}
+use Rattle.query_mol.specs.QueryOutcome.{IsFirstQueryOutcome}
+use Rattle.reg_model.specs.Searches.{Counts}
+use Rattle.report_text.specs.declared.report.SearchLine.{SearchLine}
+use Rattle.report_text.specs.declared.report.SearchLine.TheVariants.{Hits, OverBudget, Refused}
+use Rattle.report_rules.specs.Answers.{Answer, to_search, not_read, hits_at, over_at}
+use Rattle.board_core.specs.declared.account.Account.{Account}
+use Rattle.board_core.specs.declared.entry.Entry.{Entry}
+use Rattle.board_core.specs.declared.entry.Entry.TheVariants.{Answered}
+use Rattle.board_core.specs.declared.entry.Noted.{Noted}
+use Rattle.board_core.specs.declared.entry.Reply.TheVariants as reply
+use Rattle.board_core.specs.After.{fronted}
+use Rattle.board_core.proofs.Grown.{grows_same}
+use Rattle.board.specs.Seated.{Place, Seated, IsOf}
+use Rattle.searcher.specs.Searched.{IsSearched as Searched}
+use Rattle.searcher.specs.Walking.{Whatever}
+use Rattle.board_jobs.specs.Telling.{entries_in}
+use Rattle.board_jobs.specs.Calls.{Answers, GoesOn, IsAtWork, IsSearched, TellsReply}
+use Rattle.board_jobs.proofs.Chained.{all_one, all_none, told_one, IsFreed, ready_after, goes_on-one}
+
+seen_in : (a b : Account) (front : ℕ) (es : List Entry) → Searched a b front es → b.log.seen ≡ front
+seen_in a b front es s = ap (λ l. l.seen) s.log
+
+used_in : (a b : Account) (front : ℕ) (es : List Entry) → Searched a b front es → length b.room.used ≡ length a.room.used + 0
+used_in a b front es s = let same : length b.room.used ≡ length a.room.used = ap (λ r. length r.used) s.room in omega arith
+
+hits-answers : (k : Shape) (a b : Account) (asked : QueryGraph) (budget front : ℕ) (hits : List Hit) (rows records : ℕ) → a.log.seen ≤ front
+    → Searched a b front (Answered asked budget front (reply.Hits hits) ∷ []) → Whatever k b front (λ h. Counts asked h records)
+    → Answers k a b (to_search (hits_at asked budget front hits rows records))
+hits-answers k a b asked budget front hits rows records later s counted c who =
+    let told : Entry = Answered asked budget front (reply.Hits hits) in
+    let seen = seen_in a b front (told ∷ []) s in record {
+      who = s.who;
+      entries = told_one a b told b s.entries;
+      seen = omega (arith, seen, later);
+      marks = all_one (λ mark. mark ≤ b.log.seen) front (omega (arith, seen));
+      fresh = all_none _;
+      fronts = all_one (λ mark. a.log.seen ≤ mark) front later;
+      used = used_in a b front (told ∷ []) s;
+      says = counted;
+      grows = s.grown;
+    }
+
+over-answers : (k : Shape) (a b : Account) (asked : QueryGraph) (budget front : ℕ) → a.log.seen ≤ front
+    → Searched a b front (Answered asked budget front reply.OverBudget ∷ []) → Answers k a b (to_search (over_at asked budget front))
+over-answers k a b asked budget front later s c who =
+    let told : Entry = Answered asked budget front reply.OverBudget in
+    let seen = seen_in a b front (told ∷ []) s in record {
+      who = s.who;
+      entries = told_one a b told b s.entries;
+      seen = omega (arith, seen, later);
+      marks = all_one (λ mark. mark ≤ b.log.seen) front (omega (arith, seen));
+      fresh = all_none _;
+      fronts = all_one (λ mark. a.log.seen ≤ mark) front later;
+      used = used_in a b front (told ∷ []) s;
+      says = tt;
+      grows = s.grown;
+    }
+
+-- nothing is told: of a query that is refused, and of a search that memory ran out for
+quiet-answers : (k : Shape) (a b : Account) (line code front : ℕ) → a.log.seen ≤ front → Searched a b front [] → Answers k a b (to_search (not_read line code))
+quiet-answers k a b line code front later s c who =
+    let seen = seen_in a b front [] s in record {
+      who = s.who;
+      entries = ap (λ (ns : List Noted). map (λ n. n.entry) ns) (s.entries ∙ append-nil a.entries) ∙ sym (append-nil (entries_in a));
+      seen = omega (arith, seen, later);
+      marks = all_none _;
+      fresh = all_none _;
+      fronts = all_none _;
+      used = used_in a b front [] s;
+      says = tt;
+      grows = s.grown;
+    }
+
+same-answers : (k : Shape) (a : Account) (line code : ℕ) → Answers k a a (to_search (not_read line code))
+same-answers k a line code c who = record {
+  who = refl;
+  entries = sym (append-nil (entries_in a));
+  seen = omega arith;
+  marks = all_none _;
+  fresh = all_none _;
+  fronts = all_none _;
+  used = omega arith;
+  says = tt;
+  grows = grows_same a;
+}
+
+-- ---- the lines
+
+pub told-hits : (b : Place) (c d : Seated) (asked : QueryGraph) (budget front : ℕ) (found hits : List Hit) (rows records kept : ℕ) → hits ≡ found → kept ≡ records → c.account.log.seen ≤ front
+    → Searched c.account d.account front (Answered asked budget front (reply.Hits found) ∷ []) → Whatever b.shape d.account front (λ h. Counts asked h records)
+    → TellsReply b.shape c.account d.account asked budget (Hits front hits rows kept)
+told-hits b c d asked budget front found hits rows records kept same count later s counted =
+    subst (λ (x : List Hit). Answers b.shape c.account d.account (to_search (hits_at asked budget front x rows kept))) (sym same)
+    (subst (λ (n : ℕ). Answers b.shape c.account d.account (to_search (hits_at asked budget front found rows n))) (sym count)
+    (hits-answers b.shape c.account d.account asked budget front found rows records later s counted))
+
+pub told-over : (b : Place) (c d : Seated) (asked : QueryGraph) (budget front : ℕ) → c.account.log.seen ≤ front
+    → Searched c.account d.account front (Answered asked budget front reply.OverBudget ∷ []) → TellsReply b.shape c.account d.account asked budget (OverBudget front budget)
+told-over b c d asked budget front later s = (refl, over-answers b.shape c.account d.account asked budget front later s)
+
+pub on-searched : (b : Place) (c d : Seated) (front : ℕ) (es : List Entry) (answer : Answer) → IsAtWork b c → IsOf b d → Searched c.account d.account front es
+    → Answers b.shape c.account d.account answer → GoesOn b c d
+on-searched b c d front es answer work of s answers =
+    let freed : IsFreed b c.account d.account = record {
+      holding = ap (λ l. l.holding) s.log ∙ ap fronted work.ready.free;
+      pool = s.pool;
+      who = s.who;
+      room = subst (λ r. length r.used ≤ b.shape.room) (sym s.room) work.room;
+    } in
+    goes_on-one b c d answer (record { of = of; ready = ready_after b c.account d.account work.ready freed; room = freed.room }) s.who answers
+
+pub on-hits : (b : Place) (c d : Seated) (asked : QueryGraph) (budget front : ℕ) (found : List Hit) (records : ℕ) → IsAtWork b c → IsOf b d → c.account.log.seen ≤ front
+    → Searched c.account d.account front (Answered asked budget front (reply.Hits found) ∷ []) → Whatever b.shape d.account front (λ h. Counts asked h records) → GoesOn b c d
+on-hits b c d asked budget front found records work of later s counted =
+    on-searched b c d front (Answered asked budget front (reply.Hits found) ∷ []) (to_search (hits_at asked budget front found 0 records)) work of s
+    (hits-answers b.shape c.account d.account asked budget front found 0 records later s counted)
+
+pub on-over : (b : Place) (c d : Seated) (asked : QueryGraph) (budget front : ℕ) → IsAtWork b c → IsOf b d → c.account.log.seen ≤ front
+    → Searched c.account d.account front (Answered asked budget front reply.OverBudget ∷ []) → GoesOn b c d
+on-over b c d asked budget front work of later s =
+    on-searched b c d front (Answered asked budget front reply.OverBudget ∷ []) (to_search (over_at asked budget front)) work of s (over-answers b.shape c.account d.account asked budget front later s)
+
+-- memory ran out
+pub on-none : (b : Place) (c d : Seated) (front : ℕ) → IsAtWork b c → IsOf b d → Searched c.account d.account front [] → GoesOn b c d
+on-none b c d front work of s =
+    let seen = seen_in c.account d.account front [] s in
+    let grown = s.grown.seen in
+    on-searched b c d front [] (to_search (not_read 0 0)) work of s (quiet-answers b.shape c.account d.account 0 0 front (omega (arith, seen, grown)) s)
+
+-- ---- the query of a file
+
+pub searched-refused : (k : Shape) (a : Account) (bytes : List ℕ) (budget line code : ℕ) → IsFirstQueryOutcome bytes (Err (record { line = line; code = code })) → IsSearched k a a bytes budget (Refused line code)
+searched-refused k a bytes budget line code refused = record {
+  answer = not_read line code;
+  searched = refused;
+  line_is = refl;
+  answers = same-answers k a line code;
+}
+
+pub searched-told : (k : Shape) (a b : Account) (bytes : List ℕ) (asked : QueryGraph) (budget : ℕ) (line : SearchLine) → IsFirstQueryOutcome bytes (Ok asked)
+    → TellsReply k a b asked budget line → IsSearched k a b bytes budget line
+searched-told k a b bytes asked budget (Hits front hits rows records) is told = record { answer = hits_at asked budget front hits rows records; searched = (is, refl); line_is = refl; answers = told }
+searched-told k a b bytes asked budget (OverBudget front own) is told = record { answer = over_at asked own front; searched = (is, told.0); line_is = refl; answers = told.1 }
+searched-told k a b bytes asked budget (Refused at code) is told = absurd told

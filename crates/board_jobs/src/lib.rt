@@ -1,0 +1,10 @@
+//! The jobs of a script, done by one caller of a board.
+#![tactic(auto)]
+
+mod copies;
+mod jobs;
+mod load;
+#[cfg(test)]
+mod tests;
+
+pub use jobs::do_job;

@@ -1,0 +1,8 @@
+//! What a command of the program leaves: its text, or what there is of it and the line that says why there is no more.
+#![tactic(auto)]
+
+mod answer;
+mod stop;
+
+pub use answer::{refuse, write_answer, write_stopped, write_text};
+pub use stop::{Stop, read_stop};

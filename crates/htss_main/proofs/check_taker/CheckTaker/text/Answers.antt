@@ -1,5 +1,0 @@
-use Rattle.htss_main.proofs.Taken.{check_text-from}
-use Rattle.htss_main.proofs.check_taker.CheckTaker.text.Goals as goal
-
-pub returns : goal.returns
-returns c = λ outcomes holds. check_text-from _ _ _ _ _ outcomes holds c.args.self.counted c.in_ok-push_records.ensures.ok

@@ -1,0 +1,8 @@
+pub mod JobFiles
+pub mod Rising
+pub mod Running
+pub mod Gone
+pub mod GroupsDone
+pub mod Heard
+pub mod Lasts
+pub mod Closed

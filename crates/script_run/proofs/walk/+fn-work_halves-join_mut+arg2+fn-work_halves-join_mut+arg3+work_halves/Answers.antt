@@ -1,0 +1,16 @@
+use Rattle.std.proofs.Common.{rules}
+use Rattle.script_run.specs.Walking.{IsWorker}
+use Rattle.script_run.proofs.Walks.{all_halves, all_one, both_halves}
+use Rattle.script_run.proofs.walk.+fn-work_halves-join_mut+arg2+fn-work_halves-join_mut+arg3+work_halves.Goals as goal
+
+pub returns-in-Some-Some : goal.returns-in-Some-Some
+returns-in-Some-Some g t c = all_one (λ w. w.caller) _ _ _ _ _ _ _ _ _ c.if-workers-lt2.true c.requires.count c.in-Some-Some.ensures.item.1 c.work.ensures
+
+pub join_mut-requires-after_bounds : goal.join_mut-requires-after_bounds
+join_mut-requires-after_bounds g t c κs within =
+    let halves = c.split_at_mut-front.result in
+    let both = both_halves (λ w. w.caller) (λ x. IsWorker c.args.board.now x) c.args.workers.now halves.0.now halves.1.now c.split_at_mut-front.ensures.value c.requires.workers in
+    search rules
+
+pub returns : goal.returns
+returns g t c = search (rules, all_halves)

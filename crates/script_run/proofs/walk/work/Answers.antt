@@ -1,0 +1,15 @@
+use Rattle.script_run.specs.Walking.{Broke, DidJobs}
+use Rattle.script_run.proofs.Walks.{by_result}
+use Rattle.script_run.proofs.walk.work.Goals as goal
+
+pub returns : goal.returns
+returns g c =
+    let k = c.args.board.now.shape in
+    let before = c.args.worker.now.caller.account in
+    let after = c.do_all-done.new.worker.caller.account in
+    record {
+      can = c.do_all-done.ensures.can;
+      who = c.do_all-done.ensures.who;
+      did = by_result (DidJobs k c.args.files.now c.args.budget c.args.group.now.jobs before after c.do_all-done.new.blocks.items) (Broke k before after)
+          c.do_all-done.result c.is_ok.result c.is_ok.ensures.value c.do_all-done.ensures.done c.do_all-done.ensures.broken;
+    }

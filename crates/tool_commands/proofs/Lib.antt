@@ -1,0 +1,10 @@
+pub mod Publications
+pub mod ScreenedRecords
+pub mod Searching
+pub mod Taken
+pub mod Making
+pub mod PlainRing
+pub mod MadeLength
+pub mod Summed
+pub mod Streams
+pub mod CodesLines

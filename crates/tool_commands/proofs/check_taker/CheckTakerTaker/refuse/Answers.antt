@@ -1,0 +1,7 @@
+use Rattle.std.proofs.Common.{◌+◌, refl, ap, sym, ◌∙◌}
+use Rattle.tool_commands.proofs.Taken.{CheckHolds-refused}
+use Rattle.tool_commands.proofs.check_taker.CheckTakerTaker.refuse.Goals as goal
+
+pub returns-clause-holds : goal.returns-clause-holds
+returns-clause-holds c = λ outcomes long holds.
+    CheckHolds-refused _ _ _ _ _ c.args.place c.args.line c.args.code outcomes holds (c.requires ∙ ap (λ n. n + 1) (sym long)) c.in_ok-push_refused.ensures.ok refl
