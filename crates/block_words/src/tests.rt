@@ -58,8 +58,8 @@ fn write_all(words: &mut [u64], name: &Name, mol: &Mol)
     ensures name { name_in (slice_index words.new) ≡ name.now }
     ensures molecule { molecule_in (slice_index words.new) ≡ mol.now }
 {
-    let coder = coder_of(mol);
-    let mut writer = BlockWriter::new(&coder, name, mol);
+    let mut coder = coder_of(mol);
+    let mut writer = BlockWriter::new(&mut coder, name, mol);
     let size = writer.size();
     for index in 0..size {
         words[index as usize] = writer.word(index);
@@ -70,8 +70,8 @@ fn write_all(words: &mut [u64], name: &Name, mol: &Mol)
 fn writes_and_reads_ethanol(rt: HostRuntime) -> Result<(), Fail> {
     let name = Name::new(b"ethanol").ok_or("no name")?;
     let mol = ethanol(rt.alloc())?;
-    let coder = coder_of(&mol);
-    let size = BlockWriter::new(&coder, &name, &mol).size();
+    let mut coder = coder_of(&mol);
+    let size = BlockWriter::new(&mut coder, &name, &mol).size();
     if size != 24 {
         return Err("another size".into());
     }
@@ -119,8 +119,8 @@ fn writes_and_reads_ethanol(rt: HostRuntime) -> Result<(), Fail> {
 fn writes_no_word_of_an_empty_name(rt: HostRuntime) -> Result<(), Fail> {
     let name = Name::new(b"").ok_or("no name")?;
     let mol = ethanol(rt.alloc())?;
-    let coder = coder_of(&mol);
-    let mut writer = BlockWriter::new(&coder, &name, &mol);
+    let mut coder = coder_of(&mol);
+    let mut writer = BlockWriter::new(&mut coder, &name, &mol);
     if writer.size() != 23 {
         return Err("another size".into());
     }
@@ -151,8 +151,8 @@ fn writes_other_fields(rt: HostRuntime) -> Result<(), Fail> {
     let bonds = vec![in rt.alloc(); bond]?;
     let mut mol = Mol::new(atoms, bonds).ok_or("no molecule")?;
     mark_rings(&mut mol);
-    let coder = coder_of(&mol);
-    let mut writer = BlockWriter::new(&coder, &name, &mol);
+    let mut coder = coder_of(&mol);
+    let mut writer = BlockWriter::new(&mut coder, &name, &mol);
     if writer.size() != 18 {
         return Err("another size".into());
     }

@@ -34,7 +34,7 @@ struct Parts {
 pub struct BlockWriter<'a> {
     name: &'a Name,
     mol: &'a Mol,
-    coder: &'a Coder,
+    coder: &'a mut Coder,
     // of the atom whose code was asked last, and at first of the first atom
     held: AtomCodes,
 }
@@ -52,9 +52,9 @@ impl<'a> Model for BlockWriter<'a> {
 
 impl<'a> BlockWriter<'a> {
     /// Makes ready for the name and the molecule that the coder was loaded with, at the cost of the codes of one atom.
-    pub fn new(coder: &'a Coder, name: &'a Name, mol: &'a Mol) -> BlockWriter<'a>
+    pub fn new(coder: &'a mut Coder, name: &'a Name, mol: &'a Mol) -> BlockWriter<'a>
         requires marked { IsMarked mol.now }
-        requires loaded { IsCoder mol.now coder.now }
+        requires loaded { IsCoder mol.now coder.old }
         ensures { result ≡ record { name = name.now; mol = mol.now } }
     {
         // that they keep their rules
@@ -153,13 +153,14 @@ fn plain_word(name: &Name, mol: &Mol, parts: Parts, index: u32) -> u64
 }
 
 // Holds the codes of the atom at this place, from 1 to the number of atoms.
-fn turn_to(held: &mut AtomCodes, coder: &Coder, mol: &Mol, atom: u16)
-    requires loaded { IsCoder mol.now coder.now }
+fn turn_to(held: &mut AtomCodes, coder: &mut Coder, mol: &Mol, atom: u16)
+    requires loaded { IsCoder mol.now coder.old }
     requires held { AreCodesOf mol.now held.old }
     requires some { 1 ≤ atom }
     requires within { atom ≤ length mol.now.atoms }
     ensures held { AreCodesOf mol.now held.new }
     ensures atom { held.new.atom ≡ atom }
+    ensures loaded { IsCoder mol.now coder.new }
 {
     if held.atom != atom {
         held.codes = coder.codes(mol, atom);

@@ -157,8 +157,8 @@ fn block_at(
     ensures { IfOk result (λ words. words.items
         ≡ first_of (words_from (slots_items closed.now.words) place) (block_size (words_from (slots_items closed.now.words) place 0))) }
 {
-    let mut words = Vec::new(alloc);
     let size = words_in(closed.word(place));
+    let mut words = Vec::with_capacity(alloc, size)?;
     for i in 0..size {
         words.push(closed.word(place + i))?;
     }

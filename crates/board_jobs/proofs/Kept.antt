@@ -19,10 +19,11 @@ use Rattle.board_core.specs.Histories.{history_of}
 use Rattle.board_core.specs.Truths.{IsTrueLog}
 use Rattle.board_core.proofs.Lists.{each_kept, inside}
 use Rattle.board_jobs.specs.Answering.{IsAnswered}
+use Rattle.board_jobs.specs.Apart.{IsApart, AreApart}
 use Rattle.board_jobs.specs.Groups.{place_of, with_seen, HaveMet, AreNew}
 use Rattle.board_jobs.specs.Telling.{tells}
 use Rattle.board_jobs.proofs.Places.{at_map, at_set, map_back, set_else, set_here}
-use Rattle.board_jobs.proofs.Marks.{AreSeen, IsOwn, Before, all_later}
+use Rattle.board_jobs.proofs.Marks.{AreSeen, IsOwn, Before, all_later, apart_is}
 use Rattle.board_jobs.proofs.Stand.{Stands}
 use Rattle.board_jobs.proofs.Keeping.{MayOwn, told_true, owns_are, answer_keeps}
 use Rattle.board_jobs.proofs.Fits.{IsCaller, one_place, same_caller, other_caller}
@@ -33,10 +34,13 @@ pub record HasSeen (k : Shape) (accounts : List Account) (line : Line) : Type 0 
   pub there : get_elem? accounts (place_of k line.caller) ≡ some by
   pub seen : AreSeen by.log.seen line
 
--- each line keeps its rule; callers have seen the marks of their lines, and all have seen those of groups before this one; own numbers
--- are of own events; and the words that a caller's lines have used are those in use
+-- each line keeps its rule; none is of a group after this one, and none has a mark of a later group's event; callers have seen the
+-- marks of their lines, and all have seen those of groups before this one; own numbers are of own events; and the words that a caller's
+-- lines have used are those in use
 pub record Kept (k : Shape) (h : List Event) (group : ℕ) (accounts : List Account) (lines : List Line) : Type 0 where
   pub rules : (earlier later : List Line) (line : Line) → lines ≡ earlier ++ line ∷ later → KeepsRule k h earlier line
+  pub until : All (λ line. line.group ≤ group) lines
+  pub apart : AreApart lines
   pub own : All (HasSeen k accounts) lines
   pub old : All (λ line. line.group < group → Each (λ a. AreSeen a.log.seen line) accounts) lines
   pub owns : All (λ line. All (IsOwn h line.caller) (own_number line.answer)) lines
@@ -79,6 +83,8 @@ used_none caller line other = ap (λ (b : Bool). cond b (words_used line.answer)
 pub kept_new : (k : Shape) (h : List Event) (accounts : List Account) → AreNew k accounts → Kept k h 1 accounts []
 kept_new k h accounts new = record {
   rules = λ earlier later line none. absurd (no_tail earlier later line none);
+  until = All-nil (λ line. line.group ≤ 1);
+  apart = All-nil (λ one. All (IsApart one) []);
   own = All-nil (HasSeen k accounts);
   old = All-nil (λ line. line.group < 1 → Each (λ a. AreSeen a.log.seen line) accounts);
   owns = All-nil (λ line. All (IsOwn h line.caller) (own_number line.answer));
@@ -140,6 +146,14 @@ module _ (k : Shape) (p : Parts) (group : ℕ) (accounts : List Account) (lines 
         omega (arith, sum, none, was))
         (at_set accounts (place_of k line.caller) (place_of k caller) b x there)
 
+    apart_more : All (λ number. a.log.seen < number) (own_number line.answer) → AreApart (lines ++ line ∷ [])
+    apart_more fresh =
+        let before : All (λ one. IsApart one line) lines = apart_is (history_of k p) lines line a before_line fresh in
+        let behind : All (IsApart line) lines = λ i d within late. (let until = kept.until i d within in absurd (omega (arith, late, here, until))) in
+        All-push (λ one. All (IsApart one) (lines ++ line ∷ [])) lines line
+        (λ i d within. All-push (IsApart (get_or lines i d)) lines line (kept.apart i d within) (before i d within))
+        (All-push (IsApart line) lines line behind (λ late. absurd (omega (arith, late))))
+
     pub kept_answer : IsAnswered k line.caller a b line.answer → Stands k p b → MayOwn line.caller line.answer → Kept k (history_of k p) group (set accounts (place_of k line.caller) b) (lines ++ line ∷ [])
     kept_answer answered stands may =
         let told : Each (IsTrueLog k (history_of k p)) (tells line.caller line.answer) = told_true k p line.caller a b line.answer answered stands in
@@ -150,6 +164,8 @@ module _ (k : Shape) (p : Parts) (group : ℕ) (accounts : List Account) (lines 
               (λ (t : (lines ≡ earlier) × (line ≡ one)). subst (λ e. KeepsRule k (history_of k p) e one) t.0 (subst (λ x. KeepsRule k (history_of k p) lines x) t.1 (answer_keeps k p lines line a b line.answer answered stands before_line told owns)))
               (λ (t : (rest : List Line) × (lines ≡ earlier ++ one ∷ rest)). kept.rules earlier t.0 one t.1)
               (split_last lines earlier later line one split);
+          until = All-push (λ one. one.group ≤ group) lines line kept.until (omega (arith, here));
+          apart = apart_more answered.fresh;
           own = All-push (HasSeen k left) lines line (All-weaker (HasSeen k accounts) (HasSeen k left) (seen_more more) lines kept.own) (record { by = b; there = put; seen = answered.marks });
           old = All-push (λ one. one.group < group → Each (λ x. AreSeen x.log.seen one) left) lines line
               (λ i d within early. each_kept (λ (x : Account). AreSeen x.log.seen (get_or lines i d)) accounts (place_of k line.caller) b
@@ -170,6 +186,8 @@ module _ (k : Shape) (p : Parts) (group : ℕ) (accounts : List Account) (lines 
   kept_seen : (front : ℕ) → Each (λ a. a.log.seen ≤ front) accounts → Kept k (history_of k p) (group + 1) (map (with_seen front) accounts) lines
   kept_seen front most = record {
     rules = kept.rules;
+    until = All-weaker (λ one. one.group ≤ group) (λ one. one.group ≤ group + 1) (λ one within. omega (arith, within)) lines kept.until;
+    apart = kept.apart;
     own = All-weaker (HasSeen k accounts) (HasSeen k (map (with_seen front) accounts)) (met_own front most) lines kept.own;
     old = λ i d within early j x there.
         let back = map_back (with_seen front) accounts j x there in

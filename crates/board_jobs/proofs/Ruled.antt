@@ -22,6 +22,7 @@ use Rattle.board_core.specs.Histories.{history_of}
 use Rattle.board_core.proofs.Lists.{inside}
 use Rattle.board_core.proofs.Shown.{history_counted}
 use Rattle.board_jobs.specs.Answering.{AreAnswered}
+use Rattle.board_jobs.specs.Apart.{AreApart}
 use Rattle.board_jobs.specs.Groups.{place_of, AreDone, AreGroupsDone, AreNew}
 use Rattle.board_jobs.specs.Ends.{HaveGoneOn, IsEnd}
 use Rattle.board_jobs.proofs.Places.{elem_at, set_here, set_same, set_twice}
@@ -91,7 +92,7 @@ pub front_seen : (k : Shape) (files : List (ℕ × List ℕ)) (budget : ℕ) (gr
 front_seen k files budget [] number before after front done (same, _, seen) = subst (Each (λ (a : Account). a.log.seen ≡ front)) (sym same) seen
 front_seen k files budget (group ∷ groups) number before after front done (middle, met, first, rest, one, more, _) = front_seen k files budget groups (number + 1) middle after front rest more
 
--- ---- the law
+-- ---- the laws
 
 module _ (k : Shape) (files : List (ℕ × List ℕ)) (budget : ℕ) (groups : List Group) (before middle last : List Account) (front : ℕ) (done : List Done) (p : Parts) where
   pub front_within : IsShape k → AreNew k before → AreGroupsDone k files budget 1 groups before middle front done → HaveGoneOn k middle last → IsEnd k p last → front ≤ length (history_of k p)
@@ -102,10 +103,18 @@ module _ (k : Shape) (files : List (ℕ × List ℕ)) (budget : ℕ) (groups : L
       let behind : a.log.seen ≤ p.log.front = (stand_middle k p middle last gone end 0 a there).may.agrees.seen in
       omega (arith, seen, behind, history_counted k p)
 
+  all_kept : IsShape k → AreNew k before → AreGroupsDone k files budget 1 groups before middle front done → HaveGoneOn k middle last → IsEnd k p last
+      → (number : ℕ) × Kept k (history_of k p) number middle (flat_map done_lines done)
+  all_kept shape new are gone end = kept_groups k p files budget shape groups 1 before middle front done [] are (stand_middle k p middle last gone end) (kept_new k (history_of k p) before new)
+
+  -- no group has seen an event of a later one
+  pub apart : IsShape k → AreNew k before → AreGroupsDone k files budget 1 groups before middle front done → HaveGoneOn k middle last → IsEnd k p last → AreApart (flat_map done_lines done)
+  apart shape new are gone end = (all_kept shape new are gone end).1.apart
+
   pub ruled : IsShape k → AreNew k before → AreGroupsDone k files budget 1 groups before middle front done → HaveGoneOn k middle last → IsEnd k p last
       → (earlier later : List Line) (line : Line) → flat_map done_lines done ≡ earlier ++ line ∷ later → KeepsRule k (take front (history_of k p)) earlier line
   ruled shape new are gone end earlier later line split =
-      let kept = (kept_groups k p files budget shape groups 1 before middle front done [] are (stand_middle k p middle last gone end) (kept_new k (history_of k p) before new)).1 in
+      let kept = (all_kept shape new are gone end).1 in
       let seen : HasSeen k middle line = All-head (HasSeen k middle) line later (all_right (HasSeen k middle) earlier (line ∷ later) (subst (All (HasSeen k middle)) split kept.own)) in
       let here : seen.by.log.seen ≡ front = front_seen k files budget groups 1 before middle front done are (place_of k line.caller) seen.by seen.there in
       keeps_cut k (history_of k p) front (front_within shape new are gone end) earlier line line.answer (subst (λ (n : ℕ). AreSeen n line) here seen.seen) (kept.rules earlier later line split)

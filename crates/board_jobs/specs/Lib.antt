@@ -4,4 +4,5 @@ pub mod Groups
 pub mod Ends
 pub mod Jobs
 pub mod Printed
+pub mod Apart
 pub mod Calls

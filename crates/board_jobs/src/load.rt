@@ -10,8 +10,9 @@ ghost use Rattle.board_jobs.specs.Calls.{AreLoaded, GoesOn, IsAtWork, IsLoaded, 
 
 use board::{Board, Caller};
 use ctfile::{Next, RecordReader};
+use env_code::Coder;
 use htss_defs::{Mol, Name, OutOfMemory};
-use loader::{StageError, stage};
+use loader::{StageError, stage_with};
 use pub_log::{LogFull, lock};
 use report_text::LoadLine;
 use std::alloc::Global;
@@ -35,16 +36,17 @@ pub fn load_file<R: Wait>(
     ensures goes_on { GoesOn board.now caller.old caller.new }
 {
     let mut reader = RecordReader::new(alloc)?;
+    let mut coder = Coder::new();
     let mut lines = Vec::new(alloc);
     let mut rest = bytes;
     while !rest.is_empty() {
         let (piece, after) = rest.split_at(rest.len().min(PIECE_SIZE));
         reader.feed(piece)?;
-        publish_read(rt, board, caller, &mut reader, &mut lines)?;
+        publish_read(rt, board, caller, &mut coder, &mut reader, &mut lines)?;
         rest = after;
     }
     reader.finish();
-    publish_read(rt, board, caller, &mut reader, &mut lines)?;
+    publish_read(rt, board, caller, &mut coder, &mut reader, &mut lines)?;
     Ok(lines)
 }
 
@@ -53,6 +55,7 @@ fn publish_read<R: Wait>(
     rt: &R,
     board: &Board,
     caller: &mut Caller,
+    coder: &mut Coder,
     reader: &mut RecordReader,
     lines: &mut Vec<LoadLine>,
 ) -> Result<(), OutOfMemory>
@@ -70,7 +73,7 @@ fn publish_read<R: Wait>(
     loop {
         let line = match reader.next_record()? {
             Next::Accepted { place, name, mol } => {
-                publish_one(rt, board, caller, place, name, mol)
+                publish_one(rt, board, caller, coder, place, name, mol)
             }
             Next::Refused { place, line, code } => LoadLine::Refused { place, line, code },
             Next::NeedMore | Next::End => return Ok(()),
@@ -85,6 +88,7 @@ fn publish_one<R: Wait>(
     rt: &R,
     board: &Board,
     caller: &mut Caller,
+    coder: &mut Coder,
     place: u32,
     name: Name,
     mol: Mol,
@@ -95,7 +99,7 @@ fn publish_one<R: Wait>(
     ensures taken { IsTaken board.now.shape caller.old.account caller.new.account place (record { name = name; mol = mol }) result }
     ensures goes_on { GoesOn board.now caller.old caller.new }
 {
-    match stage(board, caller, &mol, &name) {
+    match stage_with(board, caller, coder, &mol, &name) {
         Ok(staged) => {
             let locked = lock(rt, board, caller);
             match locked.publish(board, caller, staged) {

@@ -1,3 +1,4 @@
 pub mod Writing
 pub mod Causes
 pub mod Endings
+pub mod Completing

@@ -4,4 +4,5 @@ pub mod FindText
 pub mod MakeText
 pub mod RunText
 pub mod Ends
+pub mod Completeness
 pub mod Stops

@@ -107,6 +107,7 @@ pub record HasRunTo (told : Option (List File)) (script : List ℕ) (shape : Sha
   pub script_read : ScriptWasRead told script (before ++ after)
   pub front_is : IsRunFront told before shape budget front
 
--- what there may be of the text where memory runs out: nothing, where no group has begun
+-- what there may be of the text where memory runs out: nothing; or, where the script was read, the first line and the blocks of its first
+-- groups, however many these are: none, some or all
 abbrev pub IsRunFrontAtAnyTime : Option (List File) → List ℕ → Shape → ℕ → List ℕ → Type 0
 IsRunFrontAtAnyTime told script shape budget front = (front ≡ []) ⊎ HasRunTo told script shape budget front

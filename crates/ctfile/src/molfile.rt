@@ -1,5 +1,5 @@
 // A molfile: one section.
-ghost use Rattle.std.specs.Prelude.{◌^◌, ◌<◌, length, IfOk};
+ghost use Rattle.std.specs.Prelude.{IfOk};
 ghost use Rattle.ctfile.specs.Stream.{IsFirstOutcome, answer_outcome};
 
 use crate::cut::first_section;
@@ -13,7 +13,6 @@ pub fn read_molfile(
     alloc: Global,
     bytes: &[u8],
 ) -> Result<Result<(Name, Mol), (u64, u8)>, OutOfMemory>
-    requires { length bytes.now < 2 ^ 32 }
     ensures { IfOk result (λ answer. IsFirstOutcome bytes.now (answer_outcome answer)) }
 {
     Ok(match read_section(alloc, first_section(bytes), 1)? {

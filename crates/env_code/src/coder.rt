@@ -7,7 +7,7 @@ ghost use Rattle.env_code.specs.Near.{HasLanes, lane_row};
 
 use crate::bond_counts::BondCounts;
 use crate::kinds::is_of_kind;
-use crate::walk::{LaneTable, near_words};
+use crate::walk::{LaneTable, Walk, near_words};
 use htss_defs::{Adjacency, Codes, Mol};
 
 /// What the codes of a molecule are read from: its bonds at each place, their counts, and the lanes
@@ -18,6 +18,7 @@ pub struct Coder {
     bonds: Adjacency,
     counts: BondCounts,
     lanes: LaneTable,
+    walk: Walk,
 }
 
 impl Coder {
@@ -29,6 +30,7 @@ impl Coder {
             bonds: Adjacency::new(),
             counts: BondCounts::new(),
             lanes: [[false; 8]; 1000],
+            walk: Walk::new(),
         }
     }
 
@@ -56,15 +58,16 @@ impl Coder {
     }
 
     /// The codes of the atom at a place, from 1 to the number of atoms of the molecule that was loaded
-    /// last, at the cost of its neighbourhood within distance 4.
-    pub fn codes(&self, mol: &Mol, atom: u16) -> Codes
-        requires loaded { IsCoder mol.now self.now }
+    /// last, at the cost of its neighbourhood within distance 4, and of clearing the flags of a walk.
+    pub fn codes(&mut self, mol: &Mol, atom: u16) -> Codes
+        requires loaded { IsCoder mol.now self.old }
         requires some { 1 ≤ atom }
         requires within { atom ≤ length mol.now.atoms }
-        ensures { result ≡ codes_at mol.now atom }
+        ensures codes { result ≡ codes_at mol.now atom }
+        ensures loaded { IsCoder mol.now self.new }
     {
         let own = self.own_word(mol, atom);
-        let near = near_words(&self.bonds, &self.lanes, atom);
+        let near = near_words(&self.bonds, &self.lanes, &mut self.walk, atom);
         Codes {
             words: [own, near[0], near[1], near[2], near[3]],
         }

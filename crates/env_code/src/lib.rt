@@ -11,4 +11,4 @@ mod walk;
 pub use bond_counts::BondCounts;
 pub use coder::{Coder, codes_of};
 pub use kinds::is_of_kind;
-pub use walk::{LaneTable, near_words};
+pub use walk::{LaneTable, Walk, near_words};

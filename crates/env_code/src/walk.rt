@@ -12,25 +12,26 @@ use htss_defs::{Adjacency, Ends};
 pub type LaneTable = [[bool; 8]; 1000];
 
 /// The places found so far, in the order in which they were found, and how many of them count in
-/// each lane.
+/// each lane. It serves for one place after the other.
 #[derive(Drop)]
 pub struct Walk {
-    pub seen: [bool; 1000],
-    pub queue: [u16; 1000],
-    pub found: usize,
-    pub counts: [u8; 8],
+    seen: [bool; 1000],
+    queue: [u16; 1000],
+    found: usize,
+    counts: [u8; 8],
 }
 
 /// The words for the distances 1 to 4 of a place, from 1 to the number of atoms: lane i of word k
-/// counts the places within distance k that `lanes` has in lane i, and stops at 255. It costs the
-/// size of the neighbourhood within distance 4, and to clear arrays for 1000 places.
-pub fn near_words(graph: &Adjacency, lanes: &LaneTable, place: u16) -> [u64; 4]
+/// counts the places within distance k that `lanes` has in lane i, and stops at 255. It needs a walk
+/// to work with, whatever that was. It costs the size of the neighbourhood within distance 4, and to
+/// clear the flags of 1000 places.
+pub fn near_words(graph: &Adjacency, lanes: &LaneTable, walk: &mut Walk, place: u16) -> [u64; 4]
     requires valid { IsGraph graph.now }
     requires some { 1 ≤ place }
     requires within { place ≤ graph.now.atoms }
     ensures { result ≡ near_list graph.now lanes.now place }
 {
-    let mut walk = Walk::new();
+    walk.clear();
     walk.visit(lanes, place);
     let mut words = [0; 4];
     let mut head = 0;
@@ -44,7 +45,8 @@ pub fn near_words(graph: &Adjacency, lanes: &LaneTable, place: u16) -> [u64; 4]
 }
 
 impl Walk {
-    fn new() -> Walk
+    /// One that has found no place.
+    pub fn new() -> Walk
         ensures { IsEmptyWalk result }
     {
         Walk {
@@ -53,6 +55,15 @@ impl Walk {
             found: 0,
             counts: [0; 8],
         }
+    }
+
+    // Forgets the places found. The queue keeps what stands past its end.
+    fn clear(&mut self)
+        ensures { IsEmptyWalk self.new }
+    {
+        self.seen = [false; 1000];
+        self.found = 0;
+        self.counts = [0; 8];
     }
 
     // Goes one bond further from the places found last, those from `head` on.

@@ -27,11 +27,12 @@ pub fn covers(need: &Need, codes: &Codes) -> bool
 /// Whether the codes of the atom at a place, from 1 to the number of atoms of the molecule that was
 /// loaded last, cover the need. The element and then code 0 are compared first: only for an atom that
 /// passes them it costs the neighbourhood within distance 4.
-pub fn covers_atom(need: &Need, coder: &Coder, mol: &Mol, atom: u16) -> bool
-    requires loaded { IsCoder mol.now coder.now }
+pub fn covers_atom(need: &Need, coder: &mut Coder, mol: &Mol, atom: u16) -> bool
+    requires loaded { IsCoder mol.now coder.old }
     requires some { 1 ≤ atom }
     requires within { atom ≤ length mol.now.atoms }
-    ensures { IsTrue result ↔ Covers need.now (codes_at mol.now atom) }
+    ensures covers { IsTrue result ↔ Covers need.now (codes_at mol.now atom) }
+    ensures loaded { IsCoder mol.now coder.new }
 {
     let element = mol.atoms()[atom as usize - 1].element;
     if !allows(need.test, element) {

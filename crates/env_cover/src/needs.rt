@@ -6,7 +6,7 @@ ghost use Rattle.env_code.specs.Near.{HasLanes, lane_row};
 ghost use Rattle.env_cover.specs.Sure.{sure_bond};
 
 use crate::sure::{sure_bond, surely_of_kind};
-use env_code::{BondCounts, LaneTable, near_words};
+use env_code::{BondCounts, LaneTable, Walk, near_words};
 use htss_defs::{Adjacency, AtomTest, Need, Query};
 use std::marker::Model;
 
@@ -54,9 +54,19 @@ impl<'a> Needs<'a> {
         requires within { atom ≤ length self.now.atoms }
         ensures { result ≡ need_at self.now atom }
     {
+        let mut walk = Walk::new();
+        self.need_by(&mut walk, atom)
+    }
+
+    // The need, by a walk to work with, whatever that was.
+    fn need_by(&self, walk: &mut Walk, atom: u16) -> Need
+        requires some { 1 ≤ atom }
+        requires within { atom ≤ length self.now.atoms }
+        ensures { result ≡ need_at self.now atom }
+    {
         let test = self.query.atoms()[atom as usize - 1].test;
         let own = self.counts.word(atom, 0);
-        let near = near_words(&self.bonds, &self.lanes, atom);
+        let near = near_words(&self.bonds, &self.lanes, walk, atom);
         Need {
             test,
             words: [own, near[0], near[1], near[2], near[3]],
@@ -69,10 +79,11 @@ impl<'a> Needs<'a> {
         ensures { IsPivot self.now result }
     {
         let atoms = self.query.atoms().len() as u16;
+        let mut walk = Walk::new();
         let mut pivot = 1;
-        let mut greatest = self.weight(1);
+        let mut greatest = self.weight(&mut walk, 1);
         for atom in 2..atoms + 1 {
-            let weight = self.weight(atom);
+            let weight = self.weight(&mut walk, atom);
             if weight > greatest {
                 pivot = atom;
                 greatest = weight;
@@ -81,12 +92,12 @@ impl<'a> Needs<'a> {
         pivot
     }
 
-    fn weight(&self, atom: u16) -> u64
+    fn weight(&self, walk: &mut Walk, atom: u16) -> u64
         requires some { 1 ≤ atom }
         requires within { atom ≤ length self.now.atoms }
         ensures { result ≡ weight self.now atom }
     {
-        lane_sum(self.need(atom).words[4])
+        lane_sum(self.need_by(walk, atom).words[4])
     }
 }
 

@@ -255,7 +255,7 @@ fn covers_in_ethanol(rt: HostRuntime) -> Result<(), Fail> {
             let codes = codes_of(&mol, atom);
             assert_eq!(rt; covers(&need, &codes), want[atom as usize - 1]);
             assert_eq!(rt;
-                covers_atom(&need, &coder, &mol, atom),
+                covers_atom(&need, &mut coder, &mol, atom),
                 want[atom as usize - 1]
             );
         }

@@ -22,25 +22,27 @@ pub fn kept_or_cut(
     appended
 }
 
-/// Appends bytes. Where memory runs out, a front of them may stand.
+/// Appends bytes. Where memory runs out, the text stays as it was.
 pub fn append_bytes(text: &mut Vec<u8>, bytes: &[u8]) -> Result<(), OutOfMemory>
     ensures ok { OnOk result (text.new.items ≡ text.old.items ++ bytes.now) }
     ensures front { KeepsFront text.old.items text.new.items }
+    ensures err { OnErr result (text.new.items ≡ text.old.items) }
 {
     text.extend_from_slice(bytes)?;
     Ok(())
 }
 
-/// Appends a number in decimal digits. Where memory runs out, a front of them may stand.
+/// Appends a number in decimal digits. Where memory runs out, the text stays as it was.
 pub fn append_number(text: &mut Vec<u8>, number: u64) -> Result<(), OutOfMemory>
     ensures ok { OnOk result (text.new.items ≡ text.old.items ++ decimal number) }
     ensures front { KeepsFront text.old.items text.new.items }
+    ensures err { OnErr result (text.new.items ≡ text.old.items) }
 {
     let mut digits = Buffer::new();
     append_bytes(text, digits.format(number).as_bytes())
 }
 
-/// Appends a space and the name, or nothing where the name is empty. Where memory runs out, a front may stand.
+/// Appends a space and the name, or nothing where the name is empty. Where memory runs out, the text before stands, and more may follow.
 #[tactic(auto, using(crate::proofs::Fronts::front_trans))]
 pub fn append_name(text: &mut Vec<u8>, name: &[u8]) -> Result<(), OutOfMemory>
     ensures ok { OnOk result (text.new.items ≡ text.old.items ++ name_text name.now) }

@@ -43,7 +43,7 @@ pub fn push_overbudget(text: &mut Vec<u8>, budget: u64) -> Result<(), OutOfMemor
     kept_or_cut(text, before, appended)
 }
 
-/// Appends the line of a hit. Where memory runs out, a front of it may stand.
+/// Appends the line of a hit. Where memory runs out, the text before stands, and more may follow.
 #[tactic(auto, using(crate::proofs::Fronts::front_trans), unfolding(crate::specs::HitLines::hit_line))]
 pub fn append_hit(
     text: &mut Vec<u8>,
@@ -73,7 +73,7 @@ fn append_count(text: &mut Vec<u8>, count: u32) -> Result<(), OutOfMemory>
     append_bytes(text, b"\n")
 }
 
-/// Appends the line that stands in place of hits that the budget does not allow. Where memory runs out, a front of it may stand.
+/// Appends the line that stands in place of hits that the budget does not allow. Where memory runs out, the text before stands, and more may follow.
 #[tactic(auto, using(crate::proofs::Fronts::front_trans), unfolding(crate::specs::HitLines::overbudget_line))]
 pub fn append_overbudget(text: &mut Vec<u8>, budget: u64) -> Result<(), OutOfMemory>
     ensures ok { OnOk result (text.new.items ≡ text.old.items ++ overbudget_line budget) }

@@ -103,7 +103,7 @@ fn append_ok(
     append_bytes(text, b"\n")
 }
 
-/// Appends the line of a record that was refused. Where memory runs out, a front of it may stand.
+/// Appends the line of a record that was refused. Where memory runs out, the text before stands, and more may follow.
 #[tactic(auto, using(crate::proofs::Fronts::front_trans), unfolding(crate::specs::RecordLines::refused_line))]
 pub fn append_refused(
     text: &mut Vec<u8>,
@@ -148,7 +148,7 @@ fn append_records(
     append_bytes(text, b"\n")
 }
 
-/// Appends where and why something is refused, and the end of the line. Where memory runs out, a front of it may stand.
+/// Appends where and why something is refused, and the end of the line. Where memory runs out, the text before stands, and more may follow.
 #[tactic(auto, using(crate::proofs::Fronts::front_trans), unfolding(crate::specs::RecordLines::refusal_text))]
 pub fn append_refusal(text: &mut Vec<u8>, line: u64, code: u8) -> Result<(), OutOfMemory>
     ensures ok { OnOk result (text.new.items ≡ text.old.items ++ refusal_text line code) }
@@ -161,7 +161,7 @@ pub fn append_refusal(text: &mut Vec<u8>, line: u64, code: u8) -> Result<(), Out
     append_bytes(text, b"\n")
 }
 
-/// Appends a space and a number. Where memory runs out, a front of it may stand.
+/// Appends a space and a number. Where memory runs out, the text before stands, and more may follow.
 #[tactic(auto, using(crate::proofs::Fronts::front_trans))]
 pub fn append_spaced(text: &mut Vec<u8>, number: u64) -> Result<(), OutOfMemory>
     ensures ok { OnOk result (text.new.items ≡ text.old.items ++ spaced number) }

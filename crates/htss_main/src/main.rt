@@ -4,6 +4,8 @@
 #![tactic(auto)]
 
 #[cfg(test)]
+mod out_tests;
+#[cfg(test)]
 mod run_tests;
 mod top;
 

@@ -1,6 +1,7 @@
 // The top call: all that the program does.
 ghost use Rattle.std.specs.Prelude.{List, map, string_bytes};
 ghost use Rattle.command_words.specs.Tasks.{task_of};
+ghost use Rattle.command_ends.specs.Completeness.{Completes};
 ghost use Rattle.command_ends.specs.Ends.{Ends, seen, seen_out};
 ghost use Rattle.run_command.specs.Headline.{HasLast};
 
@@ -17,7 +18,8 @@ use tool_commands::do_command;
 /// Does what the words after the program's name say, and answers the status:
 /// 0, or 2 where they are no command line, 3 where a script is at fault, 4 where a read failed, 5 where a write failed, 6 where
 /// memory ran out, 7 where a file is absent, 8 where it is too large. At status 0 of `run`, whose callers work in threads of the
-/// runtime, it also answers the board that was closed.
+/// runtime, it also answers the board that was closed. Where the files that it comes to read are there and within the limit, a script is in
+/// the grammar, and no count of faults rises, the status is 0, or memory ran out.
 pub fn htss<R: Threads + Wait + Sync, F: Shelf, K: Sink>(
     rt: &R,
     alloc: Global,
@@ -26,6 +28,9 @@ pub fn htss<R: Threads + Wait + Sync, F: Shelf, K: Sink>(
     out: &mut K,
 ) -> Ended
     ensures ends { Ends (map string_bytes words.now)
+        (seen F.told F.absent F.faults shelf.old) (seen F.told F.absent F.faults shelf.new)
+        (seen_out K.written K.faults out.old) (seen_out K.written K.faults out.new) result.status }
+    ensures completes { Completes (task_of (map string_bytes words.now))
         (seen F.told F.absent F.faults shelf.old) (seen F.told F.absent F.faults shelf.new)
         (seen_out K.written K.faults out.old) (seen_out K.written K.faults out.new) result.status }
     ensures last { HasLast (task_of (map string_bytes words.now)) (seen F.told F.absent F.faults shelf.old)

@@ -5,4 +5,4 @@ mod stages;
 #[cfg(test)]
 mod tests;
 
-pub use stages::{StageError, stage};
+pub use stages::{StageError, stage, stage_with};

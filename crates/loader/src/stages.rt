@@ -43,8 +43,31 @@ pub fn stage(
     ensures refused { IfErr result (λ e. caller.new ≡ with_account caller.old (after_answer caller.old.account (refusal e ∷ []))) }
 {
     let mut coder = Coder::new();
+    stage_with(board, caller, &mut coder, mol, name)
+}
+
+/// As `stage`, with a coder to work with, whatever that was: it serves for one record after the other.
+pub fn stage_with(
+    board: &Board,
+    caller: &mut Caller,
+    coder: &mut Coder,
+    mol: &Mol,
+    name: &Name,
+) -> Result<Staged, StageError>
+    requires fits { IsOf board.now caller.old }
+    requires loader { IsLoader caller.old }
+    requires marked { IsMarked mol.now }
+    ensures staged { IfOk result (λ s. s ≡ staging board.now.shape caller.old.account name.now mol.now) }
+    ensures fresh { IfOk result (λ s. IsStaged board.now.shape caller.new.account s) }
+    ensures account { IfOk result (λ s. caller.new ≡ with_account caller.old (after_stage caller.old.account s)) }
+    ensures room { IfOk result (λ s. length caller.old.account.room.used + size_of name.now mol.now ≤ board.now.shape.room) }
+    ensures full { IfErr result (λ e. IsFull board.now.shape caller.old.account name.now mol.now e) }
+    ensures of { IsOf board.now caller.new }
+    ensures still { IsLoader caller.new }
+    ensures refused { IfErr result (λ e. caller.new ≡ with_account caller.old (after_answer caller.old.account (refusal e ∷ []))) }
+{
     coder.load(mol);
-    let mut writer = BlockWriter::new(&coder, name, mol);
+    let mut writer = BlockWriter::new(coder, name, mol);
     let need = writer.size();
     let left = board.shape().room.saturating_sub(caller.used());
     if left < need {

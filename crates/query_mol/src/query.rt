@@ -1,5 +1,5 @@
 // The query of a query file.
-ghost use Rattle.std.specs.Prelude.{◌≡◌, ◌^◌, ◌<◌, length, IfOk};
+ghost use Rattle.std.specs.Prelude.{◌≡◌, IfOk};
 ghost use Rattle.mol_section.specs.Lines.{lines_of};
 ghost use Rattle.query_mol.specs.QueryAtoms.{told_atoms};
 ghost use Rattle.query_mol.specs.QueryOutcome.{IsQueryOutcome, IsFirstQueryOutcome};
@@ -22,7 +22,6 @@ pub struct QueryRefusal {
 /// refused, with the code of the refusal. Besides the codes of records these are 20, more than 64 atoms, 21, an atom
 /// list that cannot be read or that an atom `L` lacks, and 22, a topology that is not 0 to 2.
 pub fn read_query(alloc: Global, bytes: &[u8]) -> Result<Result<Query, QueryRefusal>, OutOfMemory>
-    requires { length bytes.now < 2 ^ 32 }
     ensures { IfOk result (λ outcome. IsFirstQueryOutcome bytes.now outcome) }
 {
     section_query(alloc, first_section(bytes))

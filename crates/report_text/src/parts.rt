@@ -1,4 +1,4 @@
-// Parts of lines, appended to a text that is lent. Where memory runs out, a front of them may stand.
+// Parts of lines, appended to a text that is lent. Where memory runs out, the text before stands, and more may follow.
 ghost use Rattle.std.specs.Prelude.{◌≡◌, ◌++◌, ◌∷◌, [], OnOk, OnErr};
 ghost use Rattle.hit_report.specs.Appends.{KeepsFront};
 ghost use Rattle.report_text.specs.ReportText.{job_text};

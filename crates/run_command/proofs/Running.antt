@@ -40,7 +40,7 @@ use Rattle.board_jobs.proofs.Named.{named, whole}
 use Rattle.board_jobs.proofs.Places.{map_back}
 use Rattle.board_jobs.proofs.Printing.{entries_printed}
 use Rattle.board_jobs.proofs.Reported.{reported}
-use Rattle.board_jobs.proofs.Ruled.{ruled}
+use Rattle.board_jobs.proofs.Ruled.{apart, ruled}
 use Rattle.board_jobs.proofs.Told.{all_dealt}
 use Rattle.script_run.specs.declared.gate.Worker.{Worker}
 use Rattle.script_run.specs.Working.{AreCallers}
@@ -283,6 +283,7 @@ run_is told script groups shape budget accounts text text_now last limits closed
             ∙ ap (λ t. t ++ log_text (map log_line last.history)) (done.text_is ∙ begun_is groups shape budget (map done_block done.done) (script_has_group told script groups read))
             ∙ sym (report_is shape budget (map done_block done.done) last.history);
       };
+      apart = apart shape done.files budget groups done.new accounts accounts done.front done.done words limits done.are_new done.are_done (gone_here shape accounts) end;
       events = refl;
       shape_is = closed.shape_is;
       settled = closed.settled;

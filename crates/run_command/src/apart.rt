@@ -1,4 +1,6 @@
 // A gate that keeps workers apart in memory.
+ghost use Rattle.std.specs.Prelude.{None};
+
 use script_run::{Gate, Place};
 
 /// A gate that lets each worker pass. It is as large as two lines of a cache: a caller changes with each of its steps, and those of
@@ -9,5 +11,7 @@ pub struct Apart {
 }
 
 impl Gate for Apart {
+    ghost passed = { λ _. None };
+
     fn at(&mut self, _place: Place) {}
 }

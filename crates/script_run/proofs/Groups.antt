@@ -144,7 +144,7 @@ module _ {A : Type 0} where
       let rest = listed (λ i. P (suc i)) n (λ i below. each (suc i) (omega arith)) in
       (first.0 ∷ rest.0, ap suc rest.1, at_places P first.0 rest.0 first.1 rest.2)
 
-at_whole : (P Q : Type 0) (t : Bool) → t ≡ true → MatchBool t P Q → P
+pub at_whole : (P Q : Type 0) (t : Bool) → t ≡ true → MatchBool t P Q → P
 at_whole P Q t e did = subst (λ (z : Bool). MatchBool z P Q) e did
 
 -- the one at this place did its jobs

@@ -6,3 +6,5 @@ pub mod Merges
 pub mod Walks
 pub mod Callers
 pub mod Groups
+pub mod Passing
+pub mod Gates

@@ -139,7 +139,7 @@ walked_other b files budget jobs first c l s l' s' i job blocks k shape below at
       (subst (λ (z : Shape). (x : Caller) → who_of x ≡ c.account.who → false ≡ is_same (caller_of z l s job.order) x) shape other) w.so_far);
 }
 
-drop_past : (l : List Job) (i : ℕ) → length l ≤ i → drop i l ≡ []
+pub drop_past : (l : List Job) (i : ℕ) → length l ≤ i → drop i l ≡ []
 drop_past [] zero h = refl
 drop_past [] (suc i) h = refl
 drop_past (x ∷ xs) zero h = absurd (omega arith)

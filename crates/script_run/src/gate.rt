@@ -1,4 +1,6 @@
 // What a worker is, and what is called as it goes from job to job.
+ghost use Rattle.std.specs.Prelude.{◌≡◌, List, [], ◌∷◌, Option, None};
+ghost use Rattle.script_run.specs.Passed.{passed_more};
 
 use board::Caller;
 
@@ -11,8 +13,14 @@ pub enum Place {
 
 /// What is called before each job and after each answer.
 pub trait Gate {
+    ghost use Rattle.script_run.specs.declared.gate.Place.{Place};
+
+    /// The places that it was told so far, where it tells them.
+    ghost passed: { Self → Option (List Place) };
+
     /// The worker stands at this place.
-    fn at(&mut self, place: Place);
+    fn at(&mut self, place: Place)
+        ensures { passed self.new ≡ passed_more (passed self.old) (place ∷ []) };
 }
 
 /// A gate that lets each worker pass.
@@ -20,6 +28,8 @@ pub trait Gate {
 pub struct NoGate;
 
 impl Gate for NoGate {
+    ghost passed = { λ _. None };
+
     fn at(&mut self, _place: Place) {}
 }
 

@@ -7,6 +7,7 @@ ghost use Rattle.board_jobs.specs.Groups.{GroupIsDone};
 ghost use Rattle.board_jobs.specs.Jobs.{IsThere};
 ghost use Rattle.script_run.specs.Working.{AreCallers};
 ghost use Rattle.script_run.specs.Workers.{accounts_of, callers_of};
+ghost use Rattle.script_run.specs.Passing.{GatesPassed, GatesPassedFront};
 
 use crate::gate::{Gate, Worker};
 use crate::meet::meet;
@@ -67,6 +68,10 @@ pub fn run_group<R: Threads + Wait + Sync, G: Gate + Send>(
         × GroupIsDone board.now.shape files.now budget number group.now (accounts_of workers.old) (accounts_of workers.new) front done
         × (blocks.items ≡ map done_block done)) }
     ensures broken { IfErr result (λ _. HaveGoneOn board.now.shape (accounts_of workers.old) (accounts_of workers.new)) }
+
+    // Each worker's gate was told where it stood before and after each of its jobs, and nothing else.
+    ensures gates { IfOk result (λ _. GatesPassed G.passed board.now.shape group.now.jobs workers.old workers.new) }
+    ensures gates_broken { IfErr result (λ _. GatesPassedFront G.passed board.now.shape group.now.jobs workers.old workers.new) }
 {
     let mut outcomes = no_outcomes(alloc, workers.len())?;
     work_all(

@@ -12,6 +12,7 @@ fn hear_all<G>(board: &Board, caller: &mut Caller, others: &mut [Worker<G>])
     requires others { All (IsOf board.now) (map (λ w. w.caller) others.old) }
     ensures after { caller.new ≡ seen_at (most_seen caller.old.account.log.seen (map (λ w. w.caller) others.old)) caller.old }
     ensures same { map (λ w. w.caller) others.new ≡ map (λ w. w.caller) others.old }
+    ensures gates { map (λ w. w.gate) others.new ≡ map (λ w. w.gate) others.old }
 {
     for other in others.iter_mut() {
         let told = note(board, &mut other.caller).unwrap();
@@ -26,6 +27,7 @@ fn tell_all<G>(board: &Board, caller: &mut Caller, others: &mut [Worker<G>])
     requires most { All (λ c. c.account.log.seen ≤ caller.old.account.log.seen) (map (λ w. w.caller) others.old) }
     ensures same { caller.new ≡ caller.old }
     ensures after { map (λ w. w.caller) others.new ≡ map (seen_at caller.old.account.log.seen) (map (λ w. w.caller) others.old) }
+    ensures gates { map (λ w. w.gate) others.new ≡ map (λ w. w.gate) others.old }
 {
     for other in others.iter_mut() {
         let told = note(board, caller).unwrap();
@@ -36,7 +38,8 @@ fn tell_all<G>(board: &Board, caller: &mut Caller, others: &mut [Worker<G>])
 /// All callers meet: each has then seen the greatest front that one of them had.
 pub fn meet<G>(board: &Board, workers: &mut [Worker<G>])
     requires { All (IsOf board.now) (map (λ w. w.caller) workers.old) }
-    ensures { map (λ w. w.caller) workers.new ≡ map (seen_at (most_seen 0 (map (λ w. w.caller) workers.old))) (map (λ w. w.caller) workers.old) }
+    ensures after { map (λ w. w.caller) workers.new ≡ map (seen_at (most_seen 0 (map (λ w. w.caller) workers.old))) (map (λ w. w.caller) workers.old) }
+    ensures gates { map (λ w. w.gate) workers.new ≡ map (λ w. w.gate) workers.old }
 {
     if let Some((first, others)) = workers.split_first_mut() {
         hear_all(board, &mut first.caller, others);

@@ -1,6 +1,6 @@
 // A load and a search beside each other, of which one is held until the other has answered. The texts that are wanted were written by
 // hand.
-ghost use Rattle.std.specs.Prelude.{◌≡◌, ◌==◌, [], ◌∷◌, ℕ, List, All, Some, IsSome, OnOk, IfOk, if◌then◌else◌};
+ghost use Rattle.std.specs.Prelude.{◌≡◌, ◌==◌, [], ◌∷◌, ℕ, List, All, None, Some, IsSome, OnOk, IfOk, if◌then◌else◌};
 ghost use Rattle.script_text.specs.FilesByLine.{bytes_at};
 ghost use Rattle.board_jobs.specs.Jobs.{IsThere};
 ghost use Rattle.script_run.specs.Working.{AreCallers};
@@ -45,6 +45,8 @@ impl<'a> Turn<'a> {
 }
 
 impl<'a> Gate for Turn<'a> {
+    ghost passed = { λ _. None };
+
     fn at(&mut self, place: Place) {
         match place {
             Place::Before { .. } => self.ran_out |= !waits_for(self.may_go),

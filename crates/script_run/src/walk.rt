@@ -1,11 +1,12 @@
 // A worker does the jobs that are dealt to it, beside the others.
-ghost use Rattle.std.specs.Prelude.{◌≡◌, [], length, map, All, OnOk, OnErr, IfOk, IfErr};
+ghost use Rattle.std.specs.Prelude.{◌≡◌, [], ◌∷◌, length, map, All, OnOk, OnErr, IfOk, IfErr};
 ghost use Rattle.std.specs.Thread.{IsSend, IsSync};
 ghost use Rattle.report_rules.specs.Dealing.{Caller as ScriptCaller};
 ghost use Rattle.board_jobs.specs.Answering.{who_of};
 ghost use Rattle.board_jobs.specs.Jobs.{IsThere, IsJobDone};
 ghost use Rattle.board_jobs.specs.Calls.{IsOrderOf};
 ghost use Rattle.script_run.specs.Walking.{CanWork, IsWorker, DidJobs, Broke, DidOwn, DidAll};
+ghost use Rattle.script_run.specs.Passing.{before_job, around_job, HasPassed, PassedOwn, PassedFront, Passed, AllPassed};
 
 use crate::dealing::{Count, counted, is_own};
 use crate::gate::{Gate, Place, Worker};
@@ -45,6 +46,10 @@ fn do_own<R: Wait, G: Gate>(
     ensures done { IfOk result (λ block. (c : ScriptCaller) → who_of c ≡ worker.old.caller.account.who
         → IsJobDone board.now.shape files.now budget c worker.old.caller.account worker.new.caller.account job.now block) }
     ensures broken { IfErr result (λ _. Broke board.now.shape worker.old.caller.account worker.new.caller.account) }
+    ensures passed { IfOk result (λ _. (c : ScriptCaller) → who_of c ≡ worker.old.caller.account.who
+        → HasPassed (G.passed worker.old.gate) (around_job c job.now.line) (G.passed worker.new.gate)) }
+    ensures stopped { IfErr result (λ _. (c : ScriptCaller) → who_of c ≡ worker.old.caller.account.who
+        → HasPassed (G.passed worker.old.gate) (before_job c job.now.line ∷ []) (G.passed worker.new.gate)) }
 {
     let loader = worker.caller.is_loader();
     let number = worker.caller.number();
@@ -90,6 +95,8 @@ fn do_all<R: Wait, G: Gate>(
     ensures who { worker.new.caller.account.who ≡ worker.old.caller.account.who }
     ensures done { OnOk result (DidJobs board.now.shape files.now budget group.now.jobs worker.old.caller.account worker.new.caller.account blocks.new.items) }
     ensures broken { OnErr result (Broke board.now.shape worker.old.caller.account worker.new.caller.account) }
+    ensures passed { OnOk result (PassedOwn board.now.shape group.now.jobs worker.old.caller.account.who (G.passed worker.old.gate) (G.passed worker.new.gate)) }
+    ensures stopped { OnErr result (PassedFront board.now.shape group.now.jobs worker.old.caller.account.who (G.passed worker.old.gate) (G.passed worker.new.gate)) }
 {
     let shape = board.shape();
     let jobs = group.jobs.as_slice();
@@ -121,7 +128,8 @@ fn work<R: Wait, G: Gate>(
 )
     requires worker { IsWorker board.now worker.old.caller }
     requires files { All (λ job. IsThere files.now job.line job.order) group.now.jobs }
-    ensures { DidOwn board.now files.now budget group.now.jobs worker.old.caller worker.new.caller outcome.new }
+    ensures did { DidOwn board.now files.now budget group.now.jobs worker.old.caller worker.new.caller outcome.new }
+    ensures gate { Passed board.now.shape group.now.jobs worker.old.caller.account.who (G.passed worker.old.gate) (G.passed worker.new.gate) outcome.new.whole }
 {
     let mut blocks = VecDeque::new(alloc);
     let done = do_all(rt, alloc, board, worker, group, files, budget, &mut blocks);
@@ -145,7 +153,8 @@ pub fn work_all<R: Threads + Wait + Sync, G: Gate + Send>(
     requires workers { All (IsWorker board.now) (map (λ w. w.caller) workers.old) }
     requires files { All (λ job. IsThere files.now job.line job.order) group.now.jobs }
     requires count { length outcomes.old ≡ length workers.old }
-    ensures { DidAll board.now files.now budget group.now.jobs (map (λ w. w.caller) workers.old) (map (λ w. w.caller) workers.new) outcomes.new }
+    ensures did { DidAll board.now files.now budget group.now.jobs (map (λ w. w.caller) workers.old) (map (λ w. w.caller) workers.new) outcomes.new }
+    ensures gates { AllPassed G.passed board.now.shape group.now.jobs workers.old workers.new outcomes.new }
 {
     work_halves(rt, &alloc, board, workers, group, files, &budget, outcomes);
 }
@@ -164,7 +173,8 @@ fn work_halves<R: Threads + Wait + Sync, G: Gate + Send>(
     requires workers { All (IsWorker board.now) (map (λ w. w.caller) workers.old) }
     requires files { All (λ job. IsThere files.now job.line job.order) group.now.jobs }
     requires count { length outcomes.old ≡ length workers.old }
-    ensures { DidAll board.now files.now budget.now group.now.jobs (map (λ w. w.caller) workers.old) (map (λ w. w.caller) workers.new) outcomes.new }
+    ensures did { DidAll board.now files.now budget.now group.now.jobs (map (λ w. w.caller) workers.old) (map (λ w. w.caller) workers.new) outcomes.new }
+    ensures gates { AllPassed G.passed board.now.shape group.now.jobs workers.old workers.new outcomes.new }
 {
     if workers.len() < 2 {
         if let (Some(worker), Some(outcome)) = (workers.first_mut(), outcomes.first_mut()) {
@@ -181,13 +191,15 @@ fn work_halves<R: Threads + Wait + Sync, G: Gate + Send>(
             requires { IsSync R.row × IsSend G.row × All (IsWorker board.now) (map (λ w. w.caller) front.now)
                 × All (λ job. IsThere files.now job.line job.order) group.now.jobs × (length first.now ≡ length front.now) }
             ensures { DidAll board.entry.now files.entry.now budget.entry.now group.entry.now.jobs
-                (map (λ w. w.caller) front.entry.now) (map (λ w. w.caller) front.exit.now) first.exit.now }
+                (map (λ w. w.caller) front.entry.now) (map (λ w. w.caller) front.exit.now) first.exit.now
+                × AllPassed G.passed board.entry.now.shape group.entry.now.jobs front.entry.now front.exit.now first.exit.now }
         { work_halves(rt, alloc, board, front, group, files, budget, first) },
         &mut ||
             requires { IsSync R.row × IsSend G.row × All (IsWorker board.now) (map (λ w. w.caller) back.now)
                 × All (λ job. IsThere files.now job.line job.order) group.now.jobs × (length last.now ≡ length back.now) }
             ensures { DidAll board.entry.now files.entry.now budget.entry.now group.entry.now.jobs
-                (map (λ w. w.caller) back.entry.now) (map (λ w. w.caller) back.exit.now) last.exit.now }
+                (map (λ w. w.caller) back.entry.now) (map (λ w. w.caller) back.exit.now) last.exit.now
+                × AllPassed G.passed board.entry.now.shape group.entry.now.jobs back.entry.now back.exit.now last.exit.now }
         { work_halves(rt, alloc, board, back, group, files, budget, last) },
     );
 }

@@ -1,6 +1,7 @@
 // The top call without a runtime.
 ghost use Rattle.std.specs.Prelude.{List, map, string_bytes};
 ghost use Rattle.command_words.specs.Tasks.{task_of};
+ghost use Rattle.command_ends.specs.Completeness.{Completes};
 ghost use Rattle.command_ends.specs.Ends.{EndsAs, seen, seen_out, without_waiting};
 
 use crate::commands::do_command;
@@ -12,7 +13,8 @@ use std::alloc::Global;
 
 /// Does what the words after the program's name say, unless it may wait as `run` does, and answers the status:
 /// 0, or 2 where they are no such command line, 4 where a read failed, 5 where a write failed, 6 where memory ran out,
-/// 7 where a file is absent, 8 where it is too large.
+/// 7 where a file is absent, 8 where it is too large. Where the files that it comes to read are there and within the limit, and no count
+/// of faults rises, the status is 0, or memory ran out.
 pub fn htss_tool<F: Shelf, K: Sink>(
     alloc: Global,
     words: &[String],
@@ -20,6 +22,9 @@ pub fn htss_tool<F: Shelf, K: Sink>(
     out: &mut K,
 ) -> u8
     ensures ends { EndsAs (without_waiting (task_of (map string_bytes words.now)))
+        (seen F.told F.absent F.faults shelf.old) (seen F.told F.absent F.faults shelf.new)
+        (seen_out K.written K.faults out.old) (seen_out K.written K.faults out.new) result }
+    ensures completes { Completes (without_waiting (task_of (map string_bytes words.now)))
         (seen F.told F.absent F.faults shelf.old) (seen F.told F.absent F.faults shelf.new)
         (seen_out K.written K.faults out.old) (seen_out K.written K.faults out.new) result }
 {

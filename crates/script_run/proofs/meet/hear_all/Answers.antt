@@ -1,12 +1,13 @@
 use Rattle.std.proofs.Common.{◌≡◌, ◌<◌, map, length, IfOk, get_or, refl, sym, ap, subst, ◌∙◌, arith}
 use Rattle.std.proofs.lemmas.List.{take_all}
+use lib.Seq.{map-set_same}
 use Rattle.board.specs.Seated.{Seated, IsOf, Told}
 use Rattle.script_run.specs.Meeting.{most_seen, seen_at}
 use Rattle.script_run.proofs.Meets.{as_many, hear_next, read_at, read_same}
 use Rattle.script_run.proofs.meet.hear_all.Goals as goal
 
 pub loop-other-init : goal.loop-other-init
-loop-other-init g c = record { heard = refl; same = refl }
+loop-other-init g c = record { heard = refl; same = refl; gates = refl }
 
 pub note-requires : goal.note-requires
 note-requires g c =
@@ -32,6 +33,7 @@ loop-other-preserved g c =
     record {
       heard = hear_next c.args.caller.now c.loop-other.caller c.hear.new.caller x cs i c.unwrap-told.result.seen below at told c.loop-other.invariant.heard c.hear.ensures.after;
       same = read_same (λ w. w.caller) c.loop-other.others cs i (record { caller = c.note.new.caller; gate = (get_or c.loop-other.others i d).gate }) d c.loop-other.invariant.same c.note.ensures.same;
+      gates = map-set_same (λ w. w.gate) c.loop-other.others i (record { caller = c.note.new.caller; gate = (get_or c.loop-other.others i d).gate }) d refl ∙ c.loop-other.invariant.gates;
     }
 
 pub returns-clause-after : goal.returns-clause-after
@@ -43,3 +45,6 @@ returns-clause-after g c =
 
 pub returns-clause-same : goal.returns-clause-same
 returns-clause-same g c = c.loop-other.invariant.same
+
+pub returns-clause-gates : goal.returns-clause-gates
+returns-clause-gates g c = c.loop-other.invariant.gates

@@ -7,4 +7,5 @@ abbrev pub invariant-loop-other : goal.invariant-loop-other
 invariant-loop-other g l = record {
   same : l.caller ≡ l.fn.caller;
   told : map (λ w. w.caller) l.others ≡ turned (seen_at l.fn.caller.account.log.seen) l.other-index (map (λ w. w.caller) l.fn.others);
+  gates : map (λ w. w.gate) l.others ≡ map (λ w. w.gate) l.fn.others;
 }
