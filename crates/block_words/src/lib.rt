@@ -3,8 +3,6 @@
 
 mod head;
 mod reader;
-#[cfg(test)]
-mod tests;
 mod words;
 mod writer;
 

@@ -4,4 +4,3 @@ pub mod News
 pub mod Gathers
 pub mod Endings
 pub mod Closings
-pub mod Firsts

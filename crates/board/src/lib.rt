@@ -11,8 +11,6 @@ mod regions;
 mod seats;
 mod staged;
 mod steps;
-#[cfg(test)]
-mod tests;
 
 pub use blocks::{load_code, load_fact, load_head, load_mark};
 pub use close::{Final, gather};

@@ -18,4 +18,3 @@ pub mod Withdrawing
 pub mod Searching
 pub mod Loading
 pub mod Ordering
-pub mod FirstCallers

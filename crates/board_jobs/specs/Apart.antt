@@ -1,5 +1,5 @@
 -- What the groups of a run have not seen: events of later groups.
-use Rattle.std.specs.Prelude.{ℕ, ◌<◌, List, All}
+use Rattle.std.specs.Prelude.{◌<◌, List, All}
 use Rattle.report_rules.specs.Answers.{own_number}
 use Rattle.report_rules.specs.Rules.{Line, marks}
 

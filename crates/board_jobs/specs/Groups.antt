@@ -4,7 +4,7 @@ use mathlib.Core.Option.{some}
 use lib.ListN.{get_elem?}
 use Rattle.htss_defs.specs.declared.shape.Shape.{Shape}
 use Rattle.script_text.specs.declared.script.Group.{Group}
-use Rattle.report_rules.specs.Answers.{Answer, answers_of}
+use Rattle.report_rules.specs.Answers.{answers_of}
 use Rattle.report_rules.specs.Dealing.{Caller, loader, searcher, dealt_group}
 use Rattle.report_rules.specs.Reports.{Done, IsByItsFile}
 use Rattle.board_core.specs.declared.account.Account.{Account}

@@ -1,5 +1,5 @@
 -- What a job needs, and what it does to its caller's account.
-use Rattle.std.specs.Prelude.{◌≡◌, ℕ, List, [], IsSome}
+use Rattle.std.specs.Prelude.{◌≡◌, ℕ, List, IsSome}
 use Rattle.htss_defs.specs.declared.shape.Shape.{Shape}
 use Rattle.script_text.specs.declared.script.Job.{Job}
 use Rattle.script_text.specs.declared.script.Order.{Order}

@@ -6,7 +6,7 @@ use Rattle.report_text.specs.declared.report.WithdrawLine.{WithdrawLine}
 use Rattle.report_text.specs.declared.report.WithdrawLine.TheVariants.{At, Unknown as IsUnknown, Gone as IsGone, LogFull as IsFull}
 use Rattle.report_rules.specs.Answers.{Answer, to_record, to_search, to_withdrawal}
 use Rattle.report_rules.specs.Answers.{Fate, published, no_room, no_page, chain_full, log_full}
-use Rattle.report_rules.specs.Answers.{RecordAnswer, not_accepted, taken, SearchAnswer, not_read, hits_at, over_at}
+use Rattle.report_rules.specs.Answers.{not_accepted, taken, SearchAnswer, not_read, hits_at, over_at}
 use Rattle.report_rules.specs.Dealing.{Caller}
 use Rattle.report_rules.specs.Rules.{number_of}
 use Rattle.board_core.specs.declared.account.Account.{Account}

@@ -4,7 +4,5 @@
 mod copies;
 mod jobs;
 mod load;
-#[cfg(test)]
-mod tests;
 
 pub use jobs::do_job;

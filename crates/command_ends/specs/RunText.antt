@@ -100,7 +100,7 @@ pub record ReadsFileOfJob (told : Option (List File)) (script : List ℕ) (shape
 abbrev pub RunReads : Option (List File) → List ℕ → Shape → ℕ → List ℕ → List ℕ → Type 0
 RunReads told script shape budget front name = ((front ≡ []) × (name ≡ script)) ⊎ ReadsFileOfJob told script shape budget front name
 
--- the groups that were done before the run stopped
+-- the script was read, and this is the first line with the blocks of its first groups: of none, of some or of all
 pub record HasRunTo (told : Option (List File)) (script : List ℕ) (shape : Shape) (budget : ℕ) (front : List ℕ) : Type 0 where
   pub before : List Group
   pub after : List Group

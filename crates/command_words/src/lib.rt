@@ -5,8 +5,6 @@ mod command;
 mod parse;
 mod strays;
 mod tasks;
-#[cfg(test)]
-mod tests;
 mod values;
 mod words;
 

@@ -16,7 +16,8 @@ use Rattle.ctfile.specs.declared.reader.Next.TheVariants.{End}
 use Rattle.ctfile.specs.RecordList.{AreSections, last_sections, AreOutcomes, IsRecordList}
 use Rattle.ctfile.specs.Cut.{AreWhole, NoneEnds, LineEnds, IsSection, TakesSection, TakesLast, TakesLines, has_text}
 use Rattle.ctfile.specs.Stream.{ReaderState, IsWithin, TakesRecord, HasEnded, IfRecord, answer_of, AreRead, AreAllRead, HasRead}
-use Rattle.ctfile.proofs.LinesOf.{lines_of-append, lines_of-nil, length-lines_of, ends_section-without_cr}
+use Rattle.mol_section.proofs.Outcomes.{length-lines_of}
+use Rattle.ctfile.proofs.LinesOf.{lines_of-append, lines_of-nil, ends_section-without_cr}
 use Rattle.ctfile.proofs.Looked.{IsSection-lines, NoneEnds-no_section}
 
 -- ---- lists of sections

@@ -1,11 +1,11 @@
 -- The lines of bytes that are put together.
-use Rattle.std.proofs.Common.{◌≡◌, ◌≢◌, ℕ, zero, suc, ◌≤◌, inl, inr, eqb, Bool, true, false, cond, List, [], ◌∷◌, ◌++◌, length, take, get_or, map, refl, sym, ap, ◌∙◌, append_assoc, arith}
+use Rattle.std.proofs.Common.{◌≡◌, ◌≢◌, ℕ, zero, suc, inl, inr, eqb, Bool, true, false, cond, List, [], ◌∷◌, ◌++◌, length, take, get_or, map, refl, sym, ap, ◌∙◌, append_assoc, arith}
 use Rattle.std.specs.Prelude.{All, not, ◌&&◌, ◌||◌, ◌==◌}
 use Rattle.std.proofs.lemmas.Bool.{eq-eqb, ne_eqb, cond-true, cond-false}
 use Rattle.std.proofs.lemmas.Bool.Decides.{Decides-eqb}
 use Rattle.std.proofs.lemmas.List.Elements.{recursion_from_All}
 use lib.Pointwise.{pointwise}
-use Rattle.std.proofs.lemmas.List.{map-append, length-map}
+use Rattle.std.proofs.lemmas.List.{map-append}
 use Rattle.std.specs.List.{AllByRecursion}
 use Rattle.mol_section.specs.Lines.{raw_lines, onto_first, without_cr, lines_of, ends_section}
 use Rattle.mol_section.specs.Fields.{is_blank}
@@ -64,22 +64,6 @@ lines_of-last (b ∷ line) one full = ap (map without_cr) (raw_last b line one)
 pub lines_of-nil : lines_of [] ≡ []
 unfolding raw_lines
 lines_of-nil = refl
-
--- there are not more lines than bytes
-length-raw : (bytes : List ℕ) → length (raw_lines bytes) ≤ length bytes
-unfolding raw_lines
-length-raw [] = omega arith
-length-raw (b ∷ bs) =
-    let rest = length-raw bs in
-    elim (eqb b 10) as (λ v. length (cond v ([] ∷ raw_lines bs) (onto_first b (raw_lines bs))) ≤ length (b ∷ bs))
-    [ true ↦ omega (arith, rest) | false ↦ onto (raw_lines bs) rest ]
-  where
-    onto : (lines : List (List ℕ)) → length lines ≤ length bs → length (onto_first b lines) ≤ length (b ∷ bs)
-    onto [] le = omega arith
-    onto (line ∷ lines) le = omega (arith, le)
-
-pub length-lines_of : (bytes : List ℕ) → length (lines_of bytes) ≤ length bytes
-length-lines_of bytes = omega (arith, length-map (raw_lines bytes) without_cr, length-raw bytes)
 
 and_false : (b : Bool) → (b && false) ≡ false
 and_false true = refl

@@ -7,7 +7,8 @@ use Rattle.std.proofs.lemmas.Bool.{false≢true, cases_lt}
 use Rattle.std.proofs.lemmas.Bool.Decides.{Decides-eqb}
 use Rattle.mol_section.specs.Lines.{without_cr, lines_of, ends_section}
 use Rattle.ctfile.specs.Cut.{AreWhole, NoneEnds, IsSection, NoSection, TakesLines, HasPassed, IsLooked, IsFirstSection, has_text}
-use Rattle.ctfile.proofs.LinesOf.{NoLf, lines_of-append, lines_of-line, lines_of-last, lines_of-nil, length-lines_of, ends_section-without_cr}
+use Rattle.mol_section.proofs.Outcomes.{length-lines_of}
+use Rattle.ctfile.proofs.LinesOf.{NoLf, lines_of-append, lines_of-line, lines_of-last, lines_of-nil, ends_section-without_cr}
 
 pub HasPassed-nil : (bytes : List ℕ) → HasPassed bytes 0 0
 HasPassed-nil bytes = record { done = []; rest = bytes; parts = refl; at_is = refl; whole = inl refl; none = λ k d lt. absurd (omega (arith, lt, ap length lines_of-nil)); count = sym (ap length lines_of-nil) }

@@ -4,8 +4,6 @@
 mod cut;
 mod molfile;
 mod reader;
-#[cfg(test)]
-mod tests;
 
 pub use cut::first_section;
 pub use molfile::read_molfile;

@@ -6,8 +6,6 @@ mod extend;
 mod matcher;
 mod search;
 mod target;
-#[cfg(test)]
-mod tests;
 
 pub use matcher::{Matcher, first_map, least_map};
 pub use search::Found;

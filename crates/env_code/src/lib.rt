@@ -4,8 +4,6 @@
 mod bond_counts;
 mod coder;
 mod kinds;
-#[cfg(test)]
-mod tests;
 mod walk;
 
 pub use bond_counts::BondCounts;

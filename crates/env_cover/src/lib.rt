@@ -5,8 +5,6 @@ mod cover;
 mod law;
 mod needs;
 mod sure;
-#[cfg(test)]
-mod tests;
 
 pub use cover::{allows_some, covers, covers_atom, has_cover};
 pub use law::law_of_cover;

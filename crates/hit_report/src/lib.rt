@@ -5,8 +5,6 @@ mod append;
 mod codes_lines;
 mod hit_lines;
 mod record_lines;
-#[cfg(test)]
-mod tests;
 
 pub use append::{append_bytes, append_name, kept_or_cut};
 pub use codes_lines::push_codes;

@@ -4,8 +4,6 @@
 #![tactic(auto)]
 
 #[cfg(test)]
-mod out_tests;
-#[cfg(test)]
 mod run_tests;
 mod top;
 

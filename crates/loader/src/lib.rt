@@ -2,7 +2,5 @@
 #![tactic(auto)]
 
 mod stages;
-#[cfg(test)]
-mod tests;
 
 pub use stages::{StageError, stage, stage_with};

@@ -1,5 +1,5 @@
 // What a bond line says.
-ghost use Rattle.std.specs.Prelude.{◌≡◌, ℕ, ◌<◌, not, true, All, Some, length, IfOk, IfErr};
+ghost use Rattle.std.specs.Prelude.{◌≡◌, ℕ, ◌<◌, not, true, false, All, Some, length, IfOk, IfErr};
 ghost use Rattle.htss_defs.specs.Graph.{AreApart, AreEnds};
 ghost use Rattle.htss_defs.specs.Adjacency.{with_bond};
 ghost use Rattle.htss_defs.specs.Molecule.{bond_ends};
@@ -23,6 +23,7 @@ pub fn bond_of(line: &[u8], graph: &mut Adjacency) -> Result<Bond, u8>
     ensures refused { IfErr result (λ code. graph_refusal graph.old line.now ≡ Some code) }
     ensures accepted { IfOk result (λ bond. SaysBond graph.old line.now bond) }
     ensures added { IfOk result (λ bond. graph.new ≡ with_bond graph.old (bond_ends bond)) }
+    ensures same { IfErr result (λ _. graph.new ≡ graph.old) }
 {
     let Some(first) = number_of(field(line, 1, 3)) else {
         return Err(7);
@@ -58,6 +59,7 @@ pub fn add_new(graph: &mut Adjacency, ends: Ends) -> bool
     ensures new { result ≡ not (is_taken graph.old.bonds ends) }
     ensures apart { result ≡ true → All (λ e. AreApart e ends) graph.old.bonds }
     ensures added { result ≡ true → graph.new ≡ with_bond graph.old ends }
+    ensures same { result ≡ false → graph.new ≡ graph.old }
 {
     graph.add_new(ends)
 }

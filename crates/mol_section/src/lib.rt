@@ -11,8 +11,6 @@ mod outcome;
 mod properties;
 mod section;
 mod symbols;
-#[cfg(test)]
-mod tests;
 
 pub use bonds::{add_new, is_place};
 pub use counts::{Counts, counts_of};

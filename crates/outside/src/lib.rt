@@ -11,8 +11,6 @@ mod shelf;
 mod sink;
 mod sure_shelf;
 mod sure_sink;
-#[cfg(test)]
-mod tests;
 mod whole;
 
 pub use dir_shelf::DirShelf;

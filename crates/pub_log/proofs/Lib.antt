@@ -2,4 +2,3 @@ pub mod Staged
 pub mod Calls
 pub mod Reasons
 pub mod Additions
-pub mod FirstLoader

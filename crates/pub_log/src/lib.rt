@@ -5,8 +5,6 @@ mod appends;
 mod frees;
 mod locked;
 mod refusals;
-#[cfg(test)]
-mod tests;
 
 pub use locked::{Locked, front, lock};
 pub use refusals::{LogFull, WithdrawError};

@@ -56,7 +56,7 @@ next_tests size passing line tests = if passing || passes_next line then tests e
 abbrev pub IsQueryStep : Bool → List ℕ → Bool → List Atom → List (Option AtomTest) → List Atom → List (Option AtomTest) → QueryStep → Type 0
 IsQueryStep passing line aside atoms tests now told End = (is_end passing line ≡ true) × (now ≡ atoms) × (told ≡ tests)
 IsQueryStep passing line aside atoms tests now told (Refused code) =
-    (is_end passing line ≡ false) × (query_step_refusal (length atoms) passing line ≡ Some code)
+    (is_end passing line ≡ false) × (query_step_refusal (length atoms) passing line ≡ Some code) × (told ≡ tests)
 IsQueryStep passing line aside atoms tests now told (Next passing_next aside_now) =
     (is_end passing line ≡ false) × (query_step_refusal (length atoms) passing line ≡ None)
     × (next_state passing line aside atoms ≡ (passing_next, aside_now, now)) × (next_tests (length atoms) passing line tests ≡ told)

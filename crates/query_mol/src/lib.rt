@@ -10,6 +10,3 @@ mod query;
 mod section;
 
 pub use query::{QueryRefusal, read_query};
-
-#[cfg(test)]
-mod tests;

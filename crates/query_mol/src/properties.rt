@@ -63,6 +63,7 @@ fn take_new_list(line: &[u8], tests: &mut [Option<AtomTest>]) -> bool
     requires { length tests.old ≤ 999 }
     ensures passes { result ≡ (not (is_new_list line.now) || is_some (new_list_of (length tests.old) line.now)) }
     ensures tests { result ≡ true → tests.new ≡ with_new_list (length tests.old) line.now tests.old }
+    ensures same { result ≡ false → tests.new ≡ tests.old }
 {
     if !line.starts_with(b"M  ALS") {
         return true;
@@ -82,6 +83,7 @@ pub fn take_old_list(line: &[u8], tests: &mut [Option<AtomTest>]) -> bool
     requires { length tests.old ≤ 999 }
     ensures passes { result ≡ is_some (old_list_of (length tests.old) line.now) }
     ensures tests { result ≡ true → tests.new ≡ with_list tests.old (old_list_of (length tests.old) line.now) }
+    ensures same { result ≡ false → tests.new ≡ tests.old }
 {
     let size = tests.len() as u16;
     match old_list_of(line, size) {

@@ -3,8 +3,6 @@
 
 mod plain_registry;
 mod search;
-#[cfg(test)]
-mod tests;
 
 pub use plain_registry::{PlainError, PlainRegistry};
 pub use search::Search;

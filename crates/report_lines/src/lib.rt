@@ -8,8 +8,6 @@ mod log_lines;
 mod numbers;
 mod reading;
 mod search_lines;
-#[cfg(test)]
-mod tests;
 mod values;
 mod withdraw_lines;
 mod words;

@@ -3,7 +3,5 @@
 
 mod reader;
 mod state;
-#[cfg(test)]
-mod tests;
 
 pub use reader::{ReportRefusal, read_report};

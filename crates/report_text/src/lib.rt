@@ -8,8 +8,6 @@ mod log_lines;
 mod parts;
 mod report;
 mod search_lines;
-#[cfg(test)]
-mod tests;
 mod withdraw_lines;
 mod write;
 

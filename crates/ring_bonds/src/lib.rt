@@ -9,6 +9,3 @@ mod query;
 pub use marking::ring_flags;
 pub use molecule::{mark_linked, mark_rings};
 pub use query::marked_query;
-
-#[cfg(test)]
-mod tests;

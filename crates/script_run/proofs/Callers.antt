@@ -11,11 +11,10 @@ use Rattle.board_jobs.specs.Answering.{who_of}
 use Rattle.board_jobs.specs.Ends.{caller_at}
 use Rattle.board_jobs.specs.Groups.{HaveMet, with_seen}
 use Rattle.script_run.specs.declared.gate.Worker.{Worker}
-use Rattle.script_run.specs.Meeting.{most_seen, seen_at}
+use Rattle.script_run.specs.Meeting.{SawMost, seen_at}
 use Rattle.script_run.specs.Walking.{CanWork, IsWorker}
 use Rattle.script_run.specs.Workers.{accounts_of, callers_of}
 use Rattle.script_run.specs.Working.{AreCallers}
-use Rattle.script_run.proofs.Meets.{most_of}
 use Rattle.script_run.proofs.Places.{one_there, or_there, there, who_at}
 
 -- ---- before they work
@@ -74,8 +73,8 @@ seen_callers b front cs all =
     let has : Seated → Type 0 = λ x. CanWork b x × (x.account.who ≡ c.account.who) in
     subst has old.2 (subst (λ (x : Seated). has (seen_at front x)) (sym same) (can, refl)))
 
-pub met_callers : (b : Place) (cs ds : List Seated) → AreCallers b cs → ds ≡ map (seen_at (most_seen 0 cs)) cs → AreCallers b ds
-met_callers b cs ds all met = subst (λ (l : List Seated). AreCallers b l) (sym met) (seen_callers b (most_seen 0 cs) cs all)
+pub met_callers : (b : Place) (cs ds : List Seated) → AreCallers b cs → SawMost cs ds → AreCallers b ds
+met_callers b cs ds all met = subst (λ (l : List Seated). AreCallers b l) (sym met.after_is) (seen_callers b met.most cs all)
 
 module _ {G : Type 0} where
   accounts_by : (ws : List (Worker G)) → accounts_of ws ≡ map account_of (callers_of ws)
@@ -87,18 +86,17 @@ seen_accounts front [] = refl
 seen_accounts front (c ∷ cs) = ap (λ (l : List Account). with_seen front c.account ∷ l) (seen_accounts front cs)
 
 module _ {G : Type 0} where
-  pub have_met : (ws vs : List (Worker G)) → callers_of vs ≡ map (seen_at (most_seen 0 (callers_of ws))) (callers_of ws)
-      → HaveMet (accounts_of ws) (accounts_of vs) (most_seen 0 (callers_of ws))
+  pub have_met : (ws vs : List (Worker G)) → (met : SawMost (callers_of ws) (callers_of vs)) → HaveMet (accounts_of ws) (accounts_of vs) met.most
   have_met ws vs met =
       let cs : List Seated = callers_of ws in
-      let front : ℕ = most_seen 0 cs in
+      let front : ℕ = met.most in
       record {
         most = λ i a here.
             let w = map_back (λ (x : Worker G). x.caller.account) ws i a here in
             let at : get_elem? cs i ≡ some w.0.caller = at_map (λ (x : Worker G). x.caller) ws i w.0 w.1 in
-            let less : (get_or cs i w.0.caller).account.log.seen ≤ front = most_of 0 cs i w.0.caller (inside cs i w.0.caller at) in
+            let less : (get_or cs i w.0.caller).account.log.seen ≤ front = met.is_most.seen_within i w.0.caller (inside cs i w.0.caller at) in
             let now : w.0.caller.account.log.seen ≤ front = subst (λ (x : Seated). x.account.log.seen ≤ front) (or_there cs i w.0.caller w.0.caller at) less in
             subst (λ (x : Account). x.log.seen ≤ front) w.2 now;
-        after_is = accounts_by vs ∙ ap (λ (l : List Seated). map account_of l) met ∙ seen_accounts front cs
+        after_is = accounts_by vs ∙ ap (λ (l : List Seated). map account_of l) met.after_is ∙ seen_accounts front cs
             ∙ ap (λ (l : List Account). map (with_seen front) l) (sym (accounts_by ws));
       }

@@ -1,11 +1,10 @@
 -- The jobs of a group: what each worker did of them, together.
-use Rattle.std.proofs.Common.{◌≡◌, ℕ, zero, suc, ◌+◌, ◌%◌, ◌<◌, Bool, true, false, MatchBool, List, [], ◌∷◌, ◌++◌, length, map, set, take, drop, get_or, All, refl, sym, ap, subst, ◌∙◌, arith}
-use Rattle.std.proofs.lemmas.List.{length-map, map-append}
+use Rattle.std.proofs.Common.{◌≡◌, ℕ, zero, suc, ◌+◌, ◌%◌, ◌<◌, Bool, true, false, MatchBool, List, [], ◌∷◌, ◌++◌, length, map, flat_map, take, All, refl, sym, ap, subst, ◌∙◌, arith}
+use Rattle.std.proofs.lemmas.List.{length-map}
 use Rattle.std.proofs.lemmas.List.Elements.{All-nil, All-cons}
 use Rattle.std.proofs.lemmas.Nat.{mod_below}
 use mathlib.Core.Option.{some, some-injective, some-ne-none}
-use lib.ListN.{get_elem?, get_or-map}
-use lib.Seq.{map-set}
+use lib.ListN.{get_elem?}
 use Rattle.htss_defs.specs.declared.shape.Shape.{Shape}
 use Rattle.htss_defs.specs.declared.shape.Field.TheVariants.{Loaders, Searchers}
 use Rattle.htss_defs.specs.Shapes.{IsShape}
@@ -14,30 +13,29 @@ use Rattle.script_text.specs.declared.script.Job.{Job}
 use Rattle.script_text.specs.declared.script.Order.{Order}
 use Rattle.script_text.specs.declared.script.Order.TheVariants.{Load, Withdraw, Search}
 use Rattle.report_text.specs.declared.report.Block.{Block}
-use Rattle.report_rules.specs.Answers.{answers_of}
-use Rattle.report_rules.specs.Dealing.{Caller, Dealt, caller_of, dealt_from, loads_in, searches_in}
-use Rattle.report_rules.specs.Reports.{Done, done_block}
-use Rattle.report_rules.specs.Rules.{is_same}
+use Rattle.report_rules.specs.Dealing.{Dealt, caller_of, dealt_from, loads_in, searches_in}
+use Rattle.report_rules.specs.Reports.{Done, IsByItsFile, done_block}
 use Rattle.board.specs.Seated.{Place, Seated}
 use Rattle.board_core.specs.declared.account.Account.{Account}
 use Rattle.board_core.proofs.Lists.{inside}
 use Rattle.board_jobs.proofs.Places.{at_map, map_back}
 use Rattle.board_jobs.specs.Answering.{who_of}
 use Rattle.board_jobs.specs.Ends.{HaveGoneOn, caller_at}
-use Rattle.board_jobs.specs.Groups.{GroupIsDone}
+use Rattle.board_jobs.specs.Groups.{AreDone, GroupIsDone}
 use Rattle.board_jobs.specs.Jobs.{IsJobBroken}
 use Rattle.script_run.specs.declared.gate.Worker.{Worker}
 use Rattle.script_run.specs.declared.walk.Outcome.{Outcome}
-use Rattle.script_run.specs.Meeting.{most_seen, seen_at}
-use Rattle.script_run.specs.Merging.{in_turn, places_from, places_of}
+use Rattle.script_run.specs.Meeting.{SawMost}
+use Rattle.script_run.specs.Merging.{AreQueues, IsMerged, places_from, places_of}
 use Rattle.script_run.specs.Walking.{Broke, DidAll, DidJobs, DidOwn}
 use Rattle.script_run.specs.Workers.{accounts_of, callers_of}
-use Rattle.script_run.specs.Working.{AreCallers, OwnDone, OwnStep}
+use Rattle.script_run.specs.Working.{AreCallers, OwnDone}
 use Rattle.script_run.proofs.Callers.{have_met, still_callers, who_there}
 use Rattle.script_run.proofs.Merges.{blocks_in, same_places}
+use Rattle.script_run.proofs.Own.{told_by}
 use Rattle.script_run.proofs.Places.{IsSeat, agree, loader_seat, one_there, or_there, searcher_seat, there}
+use Rattle.script_run.proofs.Queues.{merged_mapped, merged_queues, one_merged}
 use Rattle.script_run.proofs.Together.{AreOwn, together}
-use Rattle.script_run.proofs.Walks.{answered_append}
 
 -- ---- what each worker did
 
@@ -78,23 +76,9 @@ worked_callers b files budget jobs cs ds os all did =
 
 -- ---- each has gone on by answers
 
-step_answers : (k : Shape) (files : List (ℕ × List ℕ)) (budget : ℕ) (c : Caller) (a b : Account) (job : Dealt) (own : List Done) (Rest : Account → List Done → Type 0)
-    → ((between : Account) (more : List Done) → Rest between more → IsJobBroken k c between b) → (t : Bool) → OwnStep k files budget c a job own Rest t → IsJobBroken k c a b
-step_answers k files budget c a b job own Rest go true step =
-    let rest = go step.2 step.1 step.7 in
-    (answers_of step.0.answer ++ rest.0, answered_append k c a step.2 b (answers_of step.0.answer) rest.0 step.6 rest.1)
-step_answers k files budget c a b job own Rest go false step = go a own step
-
-own_answers : (k : Shape) (files : List (ℕ × List ℕ)) (budget : ℕ) (c : Caller) (a b : Account) (jobs : List Dealt) (own : List Done)
-    → OwnDone k files budget c a b jobs own → IsJobBroken k c a b
-own_answers k files budget c a b [] own did = ([], did.0)
-own_answers k files budget c a b (job ∷ jobs) own did =
-    step_answers k files budget c a b job own (λ between more. OwnDone k files budget c between b jobs more)
-    (λ between more rest. own_answers k files budget c between b jobs more rest) (is_same job.caller c) did
-
 either_answers : (k : Shape) (files : List (ℕ × List ℕ)) (budget : ℕ) (jobs : List Job) (a b : Account) (blocks : List Block) (whole : Bool)
     → MatchBool whole (DidJobs k files budget jobs a b blocks) (Broke k a b) → Broke k a b
-either_answers k files budget jobs a b blocks true did = λ c who. let own = did 0 c who in own_answers k files budget c a b (dealt_from k 0 0 0 jobs) own.0 own.1
+either_answers k files budget jobs a b blocks true did = λ c who. let own = did 0 c who in (flat_map told_by own.0, own.1.answered)
 either_answers k files budget jobs a b blocks false did = did
 
 module _ {G : Type 0} where
@@ -232,67 +216,65 @@ module _ {A : Type 0} where
 pub all_whole : (lent os more : List Outcome) (n : ℕ) → lent ≡ take n (os ++ more) → n ≡ length os → All (λ (o : Outcome). o.whole ≡ true) lent → All (λ (o : Outcome). o.whole ≡ true) os
 all_whole lent os more n part all whole = subst (λ (l : List Outcome). All (λ (o : Outcome). o.whole ≡ true) l) (lent_all lent os more n part all) whole
 
+pub lent_queues : (k shape : Shape) (jobs : List Job) (lent os more : List Outcome) (n : ℕ) → lent ≡ take n (os ++ more) → n ≡ length os → shape ≡ k
+    → AreQueues (places_from k 0 0 jobs) (map blocks_in os) → AreQueues (places_from shape 0 0 jobs) (map blocks_in lent)
+lent_queues k shape jobs lent os more n part all same queues =
+    subst (λ (s : Shape). AreQueues (places_from s 0 0 jobs) (map blocks_in lent)) (sym same)
+    (subst (λ (l : List Outcome). AreQueues (places_from k 0 0 jobs) (map blocks_in l)) (sym (lent_all lent os more n part all)) queues)
+
 pub all_merged : (k shape : Shape) (jobs : List Job) (blocks : List Block) (lent os more : List Outcome) (n : ℕ) → lent ≡ take n (os ++ more) → n ≡ length os → shape ≡ k
-    → blocks ≡ in_turn (places_from shape 0 0 jobs) (map blocks_in lent) → blocks ≡ in_turn (places_from k 0 0 jobs) (map blocks_in os)
+    → IsMerged (places_from shape 0 0 jobs) (map blocks_in lent) blocks → IsMerged (places_from k 0 0 jobs) (map blocks_in os) blocks
 all_merged k shape jobs blocks lent os more n part all same merged =
-    merged
-    ∙ ap (λ (s : Shape). in_turn (places_from s 0 0 jobs) (map blocks_in lent)) same
-    ∙ ap (λ (l : List Outcome). in_turn (places_from k 0 0 jobs) (map blocks_in l)) (lent_all lent os more n part all)
-
--- what is taken in turn from lists that were mapped
-module _ {A B : Type 0} where
-  first_mapped : (f : A → B) (l : List A) → take 1 (map f l) ≡ map f (take 1 l)
-  first_mapped f [] = refl
-  first_mapped f (x ∷ xs) = refl
-
-  rest_mapped : (f : A → B) (l : List A) → drop 1 (map f l) ≡ map f (drop 1 l)
-  rest_mapped f [] = refl
-  rest_mapped f (x ∷ xs) = refl
-
-  -- the next is taken from its list
-  turn_mapped : (f : A → B) (place : ℕ) (places : List ℕ) (mapped : List (List B)) (q : List A) (rest : List (List A))
-      → get_or mapped place [] ≡ map f q → set mapped place (map f (drop 1 q)) ≡ map (λ (l : List A). map f l) rest
-      → in_turn places (map (λ (l : List A). map f l) rest) ≡ map f (in_turn places rest) → in_turn (place ∷ places) mapped ≡ map f (take 1 q ++ in_turn places rest)
-  turn_mapped f place places mapped q rest here after more =
-      ap (λ (x : List B). take 1 x ++ in_turn places (set mapped place (drop 1 x))) here
-      ∙ ap (λ (x : List B). x ++ in_turn places (set mapped place (drop 1 (map f q)))) (first_mapped f q)
-      ∙ ap (λ (x : List B). map f (take 1 q) ++ in_turn places (set mapped place x)) (rest_mapped f q)
-      ∙ ap (λ (x : List (List B)). map f (take 1 q) ++ in_turn places x) after
-      ∙ ap (λ (x : List B). map f (take 1 q) ++ x) more
-      ∙ sym (map-append f (take 1 q) (in_turn places rest))
-
-  in_turn_mapped : (f : A → B) (places : List ℕ) (queues : List (List A)) → in_turn places (map (λ (l : List A). map f l) queues) ≡ map f (in_turn places queues)
-  in_turn_mapped f [] queues = refl
-  in_turn_mapped f (place ∷ places) queues =
-      let F : List A → List B = λ l. map f l in
-      let q : List A = get_or queues place [] in
-      turn_mapped f place places (map F queues) q (set queues place (drop 1 q)) (get_or-map F queues place []) (sym (map-set F queues place (drop 1 q)))
-      (in_turn_mapped f places (set queues place (drop 1 q)))
-
-blocks_told : (places same : List ℕ) (queues : List (List Block)) (blocks : List Block) (owns : List (List Done)) (done : List Done) → blocks ≡ in_turn places queues
-    → queues ≡ map (λ (own : List Done). map done_block own) owns → places ≡ same → in_turn same owns ≡ done → blocks ≡ map done_block done
-blocks_told places same queues blocks owns done merged told is turns =
-    merged
-    ∙ ap (λ (l : List (List Block)). in_turn places l) told
-    ∙ in_turn_mapped done_block places owns
-    ∙ ap (λ (l : List ℕ). map done_block (in_turn l owns)) is
-    ∙ ap (λ (l : List Done). map done_block l) turns
+    subst (λ (l : List Outcome). IsMerged (places_from k 0 0 jobs) (map blocks_in l) blocks) (lent_all lent os more n part all)
+    (subst (λ (s : Shape). IsMerged (places_from s 0 0 jobs) (map blocks_in lent) blocks) same merged)
 
 module _ {G : Type 0} where
+  -- the jobs are done in their order, and the blocks of all workers, merged, tell them
+  record AreAllDone (b : Place) (files : List (ℕ × List ℕ)) (budget number : ℕ) (jobs : List Job) (ws xs : List (Worker G)) (os : List Outcome) : Type 0 where
+    done : List Done
+    dealt_are : map (λ one. one.dealt) done ≡ dealt_from b.shape number 0 0 jobs
+    by_files : All (IsByItsFile files budget) done
+    are_done : AreDone b.shape (accounts_of ws) (accounts_of xs) done
+    merged : IsMerged (places_from b.shape 0 0 jobs) (map blocks_in os) (map done_block done)
+
+  all_done : (b : Place) (files : List (ℕ × List ℕ)) (budget number : ℕ) (jobs : List Job) (ws xs : List (Worker G)) (os : List Outcome)
+      → IsShape b.shape → AreCallers b (callers_of ws) → DidAll b files budget jobs (callers_of ws) (callers_of xs) os → All (λ (o : Outcome). o.whole ≡ true) os
+      → AreAllDone b files budget number jobs ws xs os
+  all_done b files budget number jobs ws xs os shape all did whole =
+      let k : Shape = b.shape in
+      let before : List Account = accounts_of ws in
+      let owns = own_lists b files budget number jobs ws xs os all did whole in
+      let t = together k files budget (dealt_from k number 0 0 jobs) before (accounts_of xs) owns.0
+      (seats_for k (length before) number 0 0 jobs shape (as_many_accounts ws ∙ all.count)) owns.1 in
+      record {
+        done = t.done;
+        dealt_are = t.dealt_are;
+        by_files = t.by_files;
+        are_done = t.are_done;
+        merged =
+            subst (λ (l : List ℕ). IsMerged l (map blocks_in os) (map done_block t.done)) (same_places k number 0 0 0 jobs)
+            (subst (λ (l : List (List Block)). IsMerged (places_of k (dealt_from k number 0 0 jobs)) l (map done_block t.done)) (sym owns.2)
+            (merged_mapped done_block (places_of k (dealt_from k number 0 0 jobs)) owns.0 t.done t.merged));
+      }
+
+  -- the blocks of each worker are as many as its place is listed
+  pub all_queues : (b : Place) (files : List (ℕ × List ℕ)) (budget : ℕ) (jobs : List Job) (ws xs : List (Worker G)) (os : List Outcome)
+      → IsShape b.shape → AreCallers b (callers_of ws) → DidAll b files budget jobs (callers_of ws) (callers_of xs) os → All (λ (o : Outcome). o.whole ≡ true) os
+      → AreQueues (places_from b.shape 0 0 jobs) (map blocks_in os)
+  all_queues b files budget jobs ws xs os shape all did whole =
+      let are = all_done b files budget 0 jobs ws xs os shape all did whole in
+      merged_queues (places_from b.shape 0 0 jobs) (map blocks_in os) (map done_block are.done) are.merged
+
   -- the jobs are done, their blocks stand in their order, and the callers have met
   pub group_done : (b : Place) (files : List (ℕ × List ℕ)) (budget number : ℕ) (group : Group) (ws xs ys : List (Worker G)) (os : List Outcome) (blocks : List Block)
       → IsShape b.shape → AreCallers b (callers_of ws) → DidAll b files budget group.jobs (callers_of ws) (callers_of xs) os → All (λ (o : Outcome). o.whole ≡ true) os
-      → callers_of ys ≡ map (seen_at (most_seen 0 (callers_of xs))) (callers_of xs)
-      → blocks ≡ in_turn (places_from b.shape 0 0 group.jobs) (map blocks_in os)
+      → SawMost (callers_of xs) (callers_of ys)
+      → IsMerged (places_from b.shape 0 0 group.jobs) (map blocks_in os) blocks
       → (front : ℕ) × (done : List Done) × GroupIsDone b.shape files budget number group (accounts_of ws) (accounts_of ys) front done × (blocks ≡ map done_block done)
   group_done b files budget number group ws xs ys os blocks shape all did whole met merged =
-      let k : Shape = b.shape in
-      let before : List Account = accounts_of ws in
-      let owns = own_lists b files budget number group.jobs ws xs os all did whole in
-      let t = together k files budget (dealt_from k number 0 0 group.jobs) before (accounts_of xs) owns.0
-      (seats_for k (length before) number 0 0 group.jobs shape (as_many_accounts ws ∙ all.count)) owns.1 in (
-        most_seen 0 (callers_of xs),
-        t.done,
-        record { dealt_are = t.dealt_are; by_files = t.by_files; between = accounts_of xs; jobs = t.are_done; met = have_met xs ys met },
-        blocks_told (places_from k 0 0 group.jobs) (places_of k (dealt_from k number 0 0 group.jobs)) (map blocks_in os) blocks owns.0 t.done merged owns.2 (same_places k 0 number 0 0 group.jobs) t.turns,
+      let are = all_done b files budget number group.jobs ws xs os shape all did whole in (
+        met.most,
+        are.done,
+        record { dealt_are = are.dealt_are; by_files = are.by_files; between = accounts_of xs; jobs = are.are_done; met = have_met xs ys met },
+        one_merged (places_from b.shape 0 0 group.jobs) (map blocks_in os) blocks (map done_block are.done) merged are.merged,
       )

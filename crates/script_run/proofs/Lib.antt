@@ -1,7 +1,8 @@
 pub mod Places
-pub mod Openings
+pub mod Own
 pub mod Together
 pub mod Meets
+pub mod Queues
 pub mod Merges
 pub mod Walks
 pub mod Callers

@@ -1,7 +1,7 @@
 -- The blocks of several workers, taken in turn.
-use Rattle.std.proofs.Common.{◌≡◌, ℕ, zero, suc, ◌+◌, ◌<◌, ◌≤◌, List, [], ◌∷◌, ◌++◌, map, length, take, drop, set, get_or, refl, sym, ap, ◌∙◌, arith, append_assoc}
+use Rattle.std.proofs.Common.{◌≡◌, ℕ, zero, suc, ◌+◌, ◌<◌, ◌≤◌, List, [], ◌∷◌, ◌++◌, map, length, take, drop, set, get_or, refl, sym, ap, subst, ◌∙◌, arith, append_assoc, append-nil}
 use lib.Seq.{map-set}
-use Rattle.std.proofs.lemmas.List.{get_or-map}
+use Rattle.std.proofs.lemmas.List.{drop_all, get_or-map}
 use Rattle.htss_defs.specs.declared.shape.Shape.{Shape}
 use Rattle.script_text.specs.declared.script.Job.{Job}
 use Rattle.script_text.specs.declared.script.Order.{Order}
@@ -9,8 +9,9 @@ use Rattle.script_text.specs.declared.script.Order.TheVariants.{Load, Withdraw, 
 use Rattle.report_text.specs.declared.report.Block.{Block}
 use Rattle.report_rules.specs.Dealing.{dealt_from, caller_of, loads_in, searches_in}
 use Rattle.board_jobs.specs.Groups.{place_of}
-use Rattle.script_run.specs.Merging.{in_turn, places_from, places_of}
+use Rattle.script_run.specs.Merging.{AreQueues, IsMerged, places_from, places_of}
 use Rattle.script_run.specs.declared.walk.Outcome.{Outcome}
+use Rattle.script_run.proofs.Queues.{in_turn, turns_merged}
 
 module _ {A : Type 0} where
   drop_first : (l : List A) (i : ℕ) (a : A) → i < length l → a ≡ get_or l i a → drop i l ≡ a ∷ drop (suc i) l
@@ -62,3 +63,14 @@ merge_next k loads searches loads' searches' jobs i job all blocks now outcomes 
     ∙ ap (λ (x : List Block). x ++ in_turn after (set queues place (drop 1 q))) (sym taken)
     ∙ ap (λ (x : List (List Block)). now ++ in_turn after x) kept
     ∙ ap (λ (x : List ℕ). now ++ in_turn x (map blocks_in (set outcomes place next))) counted
+
+-- all jobs
+pub merge_all : (k : Shape) (loads searches : ℕ) (jobs all : List Job) (i : ℕ) (blocks : List Block) (first now : List Outcome) → length jobs ≤ i → jobs ≡ all
+    → AreQueues (places_from k 0 0 all) (map blocks_in first)
+    → in_turn (places_from k 0 0 jobs) (map blocks_in first) ≡ blocks ++ in_turn (places_from k loads searches (drop i jobs)) (map blocks_in now)
+    → IsMerged (places_from k 0 0 all) (map blocks_in first) blocks
+merge_all k loads searches jobs all i blocks first now past is queues whole =
+    let done : in_turn (places_from k 0 0 all) (map blocks_in first) ≡ blocks =
+    ap (λ (x : List Job). in_turn (places_from k 0 0 x) (map blocks_in first)) (sym is) ∙ whole
+    ∙ ap (λ (x : List Job). blocks ++ in_turn (places_from k loads searches x) (map blocks_in now)) (drop_all i jobs past) ∙ append-nil blocks in
+    subst (λ (x : List Block). IsMerged (places_from k 0 0 all) (map blocks_in first) x) done (turns_merged (places_from k 0 0 all) (map blocks_in first) queues)

@@ -1,6 +1,6 @@
 -- A worker's gate is told where it stands, from job to job, and so are the gates of all workers.
 use Rattle.std.proofs.Common.{◌≡◌, ℕ, ◌+◌, ◌<◌, ◌≤◌, Bool, true, false, cond, List, [], ◌∷◌, ◌++◌, length, drop, set, get_or, refl, sym, ap, subst, ◌∙◌, arith, append_assoc, append-nil}
-use Rattle.std.specs.Prelude.{Option, None, Some, filter, flat_map}
+use Rattle.std.specs.Prelude.{Option, None, Some, flat_map}
 use Rattle.htss_defs.specs.declared.shape.Shape.{Shape}
 use Rattle.script_text.specs.declared.script.Job.{Job}
 use Rattle.script_text.specs.declared.script.Order.{Order}
@@ -14,6 +14,7 @@ use Rattle.script_run.specs.declared.walk.Outcome.{Outcome}
 use Rattle.script_run.specs.Passed.{passed_more}
 use Rattle.script_run.specs.Passing.{before_job, after_job, around_job, around_own, own_places, HasPassed, PassedOwn, PassedFront, Passed, AllPassed}
 use Rattle.script_run.proofs.Merges.{drop_here}
+use Rattle.script_run.proofs.Own.{own_chosen}
 use Rattle.script_run.proofs.Walks.{drop_past}
 
 pub more_none : (before : Option (List Place)) → passed_more before [] ≡ before
@@ -27,12 +28,8 @@ more_twice (Some told) xs ys = ap Some (append_assoc told xs ys)
 -- the first of these jobs is the caller's own, or another's
 around_chosen : (c : Caller) (job : Dealt) (jobs : List Dealt) (own : Bool) → own ≡ is_same job.caller c
     → around_own c (job ∷ jobs) ≡ cond own (around_job c job.job.line ++ around_own c jobs) (around_own c jobs)
-around_chosen c job jobs true e =
-    let mine : Dealt → Bool = λ x. is_same x.caller c in
-    ap (λ (t : Bool). flat_map (λ (x : Dealt). around_job c x.job.line) (cond t (job ∷ filter mine jobs) (filter mine jobs))) (sym e)
-around_chosen c job jobs false e =
-    let mine : Dealt → Bool = λ x. is_same x.caller c in
-    ap (λ (t : Bool). flat_map (λ (x : Dealt). around_job c x.job.line) (cond t (job ∷ filter mine jobs) (filter mine jobs))) (sym e)
+around_chosen c job jobs true e = ap (λ (l : List Dealt). flat_map (λ (x : Dealt). around_job c x.job.line) l) (own_chosen c job jobs true e)
+around_chosen c job jobs false e = ap (λ (l : List Dealt). flat_map (λ (x : Dealt). around_job c x.job.line) l) (own_chosen c job jobs false e)
 
 -- the places of the caller's own among the jobs that come after so many
 abbrev pub places_left : Shape → ℕ → ℕ → List Job → Caller → List Place

@@ -1,5 +1,5 @@
 -- The own jobs of each caller, done beside each other, are the jobs of the group, done in their order.
-use Rattle.std.proofs.Common.{◌≡◌, ◌≢◌, ⊎_elim, ℕ, Bool, true, false, List, [], ◌∷◌, ◌++◌, length, set, get_or, map, take, drop, All, refl, sym, ap, subst, ◌∙◌, arith}
+use Rattle.std.proofs.Common.{◌≡◌, ◌≢◌, ⊎_elim, ℕ, zero, suc, Bool, true, false, List, [], ◌∷◌, length, set, get_or, map, All, refl, sym, ap, subst, ◌∙◌, arith}
 use Rattle.std.proofs.lemmas.List.Elements.{All-nil, All-cons, All-head, All-tail}
 use mathlib.Core.Option.{some}
 use lib.ListN.{get_elem?, length-set}
@@ -14,8 +14,10 @@ use Rattle.board_core.proofs.Lists.{inside}
 use Rattle.board_jobs.specs.Answering.{AreAnswered}
 use Rattle.board_jobs.specs.Ends.{caller_at}
 use Rattle.board_jobs.specs.Groups.{place_of, AreDone}
-use Rattle.script_run.specs.Merging.{in_turn, places_of}
-use Rattle.script_run.specs.Working.{OwnDone, OwnStep}
+use Rattle.script_run.specs.Merging.{IsMerged, places_of}
+use Rattle.script_run.specs.Working.{OwnDone}
+use Rattle.script_run.proofs.Own.{FirstDone, own_first, own_none, own_passed}
+use Rattle.script_run.proofs.Queues.{items_first}
 use Rattle.script_run.proofs.Places.{IsSeat, agree, one_there, or_there, place_at, same_caller, same_itself, there}
 
 -- each caller has done its own of these jobs, as the list at its place tells
@@ -31,13 +33,17 @@ pub record AreTogether (k : Shape) (files : List (ℕ × List ℕ)) (budget : �
   pub dealt_are : map (λ one. one.dealt) done ≡ jobs
   pub by_files : All (IsByItsFile files budget) done
   pub are_done : AreDone k before after done
-  pub turns : in_turn (places_of k jobs) owns ≡ done
+  pub merged : IsMerged (places_of k jobs) owns done
 
--- another's job is passed over
-passed : (k : Shape) (files : List (ℕ × List ℕ)) (budget : ℕ) (c : Caller) (a : Account) (job : Dealt) (own : List Done) (Rest : Account → List Done → Type 0) (b : Bool)
-    → (b ≡ true → ⊥) → OwnStep k files budget c a job own Rest b → Rest a own
-passed k files budget c a job own Rest true other step = absurd (other refl)
-passed k files budget c a job own Rest false other step = step
+-- none of these lists has anything
+all_empty : (owns : List (List Done)) → ((i : ℕ) (own : List Done) → get_elem? owns i ≡ some own → own ≡ []) → (p : ℕ) → [] ≡ get_or owns p []
+all_empty [] each p = refl
+all_empty (own ∷ owns) each zero = sym (each 0 own refl)
+all_empty (own ∷ owns) each (suc p) = all_empty owns (λ i. each (suc i)) p
+
+not_same : (b : Bool) → (b ≡ true → ⊥) → false ≡ b
+not_same true other = absurd (other refl)
+not_same false other = refl
 
 -- the rest of the jobs, after one that is the own of the caller at this place
 own_rest : (k : Shape) (files : List (ℕ × List ℕ)) (budget : ℕ) (job : Dealt) (jobs : List Dealt) (before after : List Account) (owns : List (List Done)) (b between : Account) (more : List Done)
@@ -63,46 +69,48 @@ own_rest k files budget job jobs before after owns b between more all last rest 
           (λ (t : (i ≢ p) × (get_elem? before i ≡ some a')). ⊎_elim
           (λ (u : (i ≡ p) × (more ≡ own')). absurd (t.0 u.0))
           (λ (u : (i ≢ p) × (get_elem? owns i ≡ some own')).
-          passed k files budget (caller_at k i) a' job own' (λ between' more'. OwnDone k files budget (caller_at k i) between' b' jobs more') (is_same job.caller (caller_at k i))
-          (λ same. t.0 (sym (place_at k i) ∙ ap (λ (c : Caller). place_of k c) (sym (same_caller job.caller (caller_at k i) same))))
+          own_passed k files budget (caller_at k i) a' b' job jobs own'
+          (not_same (is_same job.caller (caller_at k i)) (λ same. t.0 (sym (place_at k i) ∙ ap (λ (c : Caller). place_of k c) (sym (same_caller job.caller (caller_at k i) same)))))
           (all.each i a' b' own' t.1 eb u.1))
           (at_set owns p i more own' eo))
           (at_set before p i between a' ea);
     }
 
+-- the other jobs have their seats among as many accounts
+seats_left : (k : Shape) (job : Dealt) (jobs : List Dealt) (before : List Account) (p : ℕ) (between : Account) → All (λ (j : Dealt). IsSeat k (length before) j.caller) (job ∷ jobs)
+    → All (λ (j : Dealt). IsSeat k (length (set before p between)) j.caller) jobs
+seats_left k job jobs before p between seats =
+    subst (λ (n : ℕ). All (λ (j : Dealt). IsSeat k n j.caller) jobs) (sym (length-set before p between)) (All-tail (λ (j : Dealt). IsSeat k (length before) j.caller) job jobs seats)
+
 -- a job is done, and then the rest
 together_step : (k : Shape) (files : List (ℕ × List ℕ)) (budget : ℕ) (job : Dealt) (jobs : List Dealt) (before after : List Account) (owns : List (List Done)) (old b : Account) (own : List Done)
     → IsSeat k (length before) job.caller → get_elem? before (place_of k job.caller) ≡ some old → get_elem? owns (place_of k job.caller) ≡ some own
-    → (step : OwnStep k files budget (caller_at k (place_of k job.caller)) old job own (λ between more. OwnDone k files budget (caller_at k (place_of k job.caller)) between b jobs more) true)
-    → AreTogether k files budget jobs (set before (place_of k job.caller) step.2) after (set owns (place_of k job.caller) step.1)
+    → (step : FirstDone k files budget (caller_at k (place_of k job.caller)) old b job jobs own)
+    → AreTogether k files budget jobs (set before (place_of k job.caller) step.between) after (set owns (place_of k job.caller) step.more)
     → AreTogether k files budget (job ∷ jobs) before after owns
 together_step k files budget job jobs before after owns old b own seat here list step rest =
     let p : ℕ = place_of k job.caller in
-    let one : Done = step.0 in
-    let more : List Done = step.1 in
-    let between : Account = step.2 in
-    let listed : get_or owns p [] ≡ one ∷ more = or_there owns p own [] list ∙ step.3 in
-    let answered : AreAnswered k one.dealt.caller old between (answers_of one.answer) =
-    subst (λ (c : Caller). AreAnswered k c old between (answers_of one.answer)) (seat.at ∙ ap (λ (j : Dealt). j.caller) (sym step.4)) step.6 in
-    let at : place_of k one.dealt.caller ≡ p = ap (λ (j : Dealt). place_of k j.caller) step.4 in
+    let one : Done = step.one in
+    let listed : get_or owns p [] ≡ one ∷ step.more = or_there owns p own [] list ∙ step.own_is in
+    let answered : AreAnswered k one.dealt.caller old step.between (answers_of one.answer) =
+    subst (λ (c : Caller). AreAnswered k c old step.between (answers_of one.answer)) (seat.at ∙ ap (λ (j : Dealt). j.caller) (sym step.job_is)) step.answered in
+    let at : place_of k one.dealt.caller ≡ p = ap (λ (j : Dealt). place_of k j.caller) step.job_is in
     record {
       done = one ∷ rest.done;
-      dealt_are = λ i. step.4 i ∷ rest.dealt_are i;
-      by_files = All-cons (IsByItsFile files budget) one rest.done step.5 rest.by_files;
+      dealt_are = λ i. step.job_is i ∷ rest.dealt_are i;
+      by_files = All-cons (IsByItsFile files budget) one rest.done step.by_file rest.by_files;
       are_done = (
-        set before p between,
+        set before p step.between,
         record {
           old = old;
-          new = between;
+          new = step.between;
           there = ap (λ (n : ℕ). get_elem? before n) at ∙ here;
           answered = answered;
-          after_is = ap (λ (n : ℕ). set before n between) (sym at);
+          after_is = ap (λ (n : ℕ). set before n step.between) (sym at);
         },
         rest.are_done,
       );
-      turns =
-          ap (λ (l : List Done). take 1 l ++ in_turn (places_of k jobs) (set owns p (drop 1 l))) listed
-          ∙ ap (λ (l : List Done). one ∷ l) rest.turns;
+      merged = record { count = ap suc rest.merged.count; each = items_first p (places_of k jobs) owns one step.more rest.done listed rest.merged.each };
     }
 
 pub together : (k : Shape) (files : List (ℕ × List ℕ)) (budget : ℕ) (jobs : List Dealt) (before after : List Account) (owns : List (List Done))
@@ -112,8 +120,14 @@ together k files budget [] before after owns seats all = record {
   dealt_are = refl;
   by_files = All-nil (IsByItsFile files budget);
   are_done = agree after before all.count (λ i b a eb ea.
-      let o = there owns i (omega (arith, all.lists, inside before i a ea)) in (all.each i a b o.0 ea eb o.1).0);
-  turns = refl;
+      let o = there owns i (omega (arith, all.lists, inside before i a ea)) in (own_none k files budget (caller_at k i) a b o.0 (all.each i a b o.0 ea eb o.1)).0);
+  merged = record {
+    count = refl;
+    each = all_empty owns (λ i own eo.
+        let a = there before i (omega (arith, all.lists, inside owns i own eo)) in
+        let b = there after i (omega (arith, all.lists, all.count, inside owns i own eo)) in
+        (own_none k files budget (caller_at k i) a.0 b.0 own (all.each i a.0 b.0 own a.1 b.1 eo)).1);
+  };
 }
 together k files budget (job ∷ jobs) before after owns seats all =
     let p : ℕ = place_of k job.caller in
@@ -121,11 +135,9 @@ together k files budget (job ∷ jobs) before after owns seats all =
     let old = there before p seat.within in
     let last = there after p (omega (arith, seat.within, all.count)) in
     let own = there owns p (omega (arith, seat.within, all.lists)) in
-    let Rest : Account → List Done → Type 0 = λ between more. OwnDone k files budget (caller_at k p) between last.0 jobs more in
-    let is_own : is_same job.caller (caller_at k p) ≡ true = subst (λ (c : Caller). is_same job.caller c ≡ true) (sym seat.at) (same_itself job.caller) in
-    let step : OwnStep k files budget (caller_at k p) old.0 job own.0 Rest true =
-    subst (λ (t : Bool). OwnStep k files budget (caller_at k p) old.0 job own.0 Rest t) is_own (all.each p old.0 last.0 own.0 old.1 last.1 own.1) in
+    let mine : is_same job.caller (caller_at k p) ≡ true = subst (λ (c : Caller). is_same job.caller c ≡ true) (sym seat.at) (same_itself job.caller) in
+    let step = own_first k files budget (caller_at k p) old.0 last.0 job jobs own.0 (sym mine) (all.each p old.0 last.0 own.0 old.1 last.1 own.1) in
     together_step k files budget job jobs before after owns old.0 last.0 own.0 seat old.1 own.1 step
-    (together k files budget jobs (set before p step.2) after (set owns p step.1)
-    (subst (λ (n : ℕ). All (λ (j : Dealt). IsSeat k n j.caller) jobs) (sym (length-set before p step.2)) (All-tail (λ (j : Dealt). IsSeat k (length before) j.caller) job jobs seats))
-    (own_rest k files budget job jobs before after owns last.0 step.2 step.1 all last.1 step.7))
+    (together k files budget jobs (set before p step.between) after (set owns p step.more)
+    (seats_left k job jobs before p step.between seats)
+    (own_rest k files budget job jobs before after owns last.0 step.between step.more all last.1 step.rest))

@@ -7,54 +7,59 @@ use Rattle.script_text.specs.declared.script.Job.{Job}
 use Rattle.script_text.specs.declared.script.Order.{Order}
 use Rattle.script_text.specs.declared.script.Order.TheVariants.{Load, Withdraw, Search}
 use Rattle.report_text.specs.declared.report.Block.{Block}
-use Rattle.report_rules.specs.Answers.{Answer, answers_of}
+use Rattle.report_rules.specs.Answers.{answers_of}
 use Rattle.report_rules.specs.Dealing.{Caller, loader, searcher, Dealt, dealt_from, caller_of, loads_in, searches_in}
 use Rattle.report_rules.specs.Reports.{Done, done_block}
 use Rattle.report_rules.specs.Rules.{is_same}
 use Rattle.board_core.specs.declared.account.Account.{Account}
 use Rattle.board_core.specs.declared.account.Who.{Who}
 use Rattle.board.specs.Seated.{Place, Seated, IsLoader, number_in}
-use Rattle.board_jobs.specs.Answering.{AreAnswered, who_of}
+use Rattle.board_jobs.proofs.Chained.{answered_both}
+use Rattle.board_jobs.specs.Answering.{who_of}
 use Rattle.board_jobs.specs.Jobs.{IsJobDone}
 use Rattle.board_jobs.specs.Calls.{IsOrderOf}
 use Rattle.script_run.specs.Walking.{Broke, CanWork, DidJobs, DidOwn, DidAll}
-use Rattle.script_run.specs.Working.{OwnDone, OwnStep}
+use Rattle.script_run.specs.Working.{OwnDone}
 use Rattle.script_run.proofs.Merges.{counts_few, drop_here}
+use Rattle.script_run.proofs.Own.{own_more, own_nothing, own_same}
 use Rattle.script_run.specs.declared.walk.Outcome.{Outcome}
-
-pub answered_append : (k : Shape) (c : Caller) (a b d : Account) (xs ys : List Answer) → AreAnswered k c a b xs → AreAnswered k c b d ys → AreAnswered k c a d (xs ++ ys)
-answered_append k c a b d [] ys f g = subst (λ (x : Account). AreAnswered k c x d ys) f g
-answered_append k c a b d (x ∷ xs) ys f g = (f.0, f.1, answered_append k c f.0 b d xs ys f.2 g)
 
 pub broke_none : (k : Shape) (a : Account) → Broke k a a
 broke_none k a = λ c who. ([], refl)
 
 pub broke_more : (k : Shape) (a b d : Account) → b.who ≡ a.who → Broke k a b → Broke k b d → Broke k a d
-broke_more k a b d same f g = λ c who. let x = f c who in let y = g c (who ∙ sym same) in (x.0 ++ y.0, answered_append k c a b d x.0 y.0 x.1 y.1)
+broke_more k a b d same f g = λ c who. let x = f c who in let y = g c (who ∙ sym same) in (x.0 ++ y.0, answered_both k c a b d x.0 y.0 x.1 y.1)
 
 pub broke_done : (k : Shape) (files : List (ℕ × List ℕ)) (budget : ℕ) (a b : Account) (job : Job) (block : Block)
     → ((c : Caller) → who_of c ≡ a.who → IsJobDone k files budget c a b job block) → Broke k a b
 broke_done k files budget a b job block done = λ c who. let d = done c who in (answers_of d.answer, d.answered)
 
--- whatever is done of the rest, with what is done so far it is all
+-- what the caller has done of its own, up to the jobs that are left
 abbrev pub SoFar : Shape → List (ℕ × List ℕ) → ℕ → List Job → Account → Account → ℕ → ℕ → List Job → List Block → Type 0
-SoFar k files budget jobs first a loads searches rest blocks = (number : ℕ) (c : Caller) → who_of c ≡ first.who → (b : Account) (more : List Done)
-    → OwnDone k files budget c a b (dealt_from k number loads searches rest) more
-    → (own : List Done) × OwnDone k files budget c first b (dealt_from k number 0 0 jobs) own × (map done_block own ≡ blocks ++ map done_block more)
+SoFar k files budget jobs first a loads searches rest blocks = (number : ℕ) (c : Caller) → who_of c ≡ first.who
+    → (past : List Dealt) × (own : List Done) × (past ++ dealt_from k number loads searches rest ≡ dealt_from k number 0 0 jobs)
+    × OwnDone k files budget c first a past own × (blocks ≡ map done_block own)
 
 pub so_far_none : (k : Shape) (files : List (ℕ × List ℕ)) (budget : ℕ) (jobs : List Job) (a : Account) (blocks : List Block) → blocks ≡ [] → SoFar k files budget jobs a a 0 0 jobs blocks
-so_far_none k files budget jobs a blocks none = λ number c who b more d. (more, d, ap (λ (l : List Block). l ++ map done_block more) (sym none))
+so_far_none k files budget jobs a blocks none = λ number c who. ([], [], refl, own_nothing k files budget c a, none)
 
 pub so_far_all : (k : Shape) (files : List (ℕ × List ℕ)) (budget : ℕ) (jobs : List Job) (first a : Account) (loads searches : ℕ) (rest : List Job) (blocks : List Block)
     → rest ≡ [] → SoFar k files budget jobs first a loads searches rest blocks → DidJobs k files budget jobs first a blocks
 so_far_all k files budget jobs first a loads searches rest blocks none so = λ number c who.
-    let nothing : OwnDone k files budget c a a (dealt_from k number loads searches rest) [] =
-    subst (λ (l : List Job). OwnDone k files budget c a a (dealt_from k number loads searches l) []) (sym none) (refl, refl) in
-    let all = so number c who a [] nothing in
-    (all.0, all.1, sym (all.2 ∙ append-nil blocks))
+    let s = so number c who in
+    let all : s.0 ≡ dealt_from k number 0 0 jobs = sym (append-nil s.0) ∙ ap (λ (l : List Job). s.0 ++ dealt_from k number loads searches l) (sym none) ∙ s.2 in
+    (s.1, subst (λ (l : List Dealt). OwnDone k files budget c first a l s.1) all s.3, s.4)
 
 abbrev dealt_as : Shape → ℕ → ℕ → ℕ → Job → Dealt
 dealt_as k number loads searches job = record { group = number; caller = caller_of k loads searches job.order; job = job }
+
+-- one job more has passed
+one_passed : (k : Shape) (jobs : List Job) (number loads searches : ℕ) (job : Job) (rest later : List Job) (past : List Dealt) → rest ≡ job ∷ later
+    → past ++ dealt_from k number loads searches rest ≡ dealt_from k number 0 0 jobs
+    → (past ++ dealt_as k number loads searches job ∷ []) ++ dealt_from k number (loads + loads_in job.order) (searches + searches_in job.order) later ≡ dealt_from k number 0 0 jobs
+one_passed k jobs number loads searches job rest later past is left =
+    append_assoc past (dealt_as k number loads searches job ∷ []) (dealt_from k number (loads + loads_in job.order) (searches + searches_in job.order) later)
+    ∙ ap (λ (l : List Job). past ++ dealt_from k number loads searches l) (sym is) ∙ left
 
 -- a job of its own is done
 pub so_far_own : (k : Shape) (files : List (ℕ × List ℕ)) (budget : ℕ) (jobs : List Job) (first a b : Account) (loads searches : ℕ) (job : Job) (rest later : List Job) (blocks : List Block) (block : Block)
@@ -62,28 +67,31 @@ pub so_far_own : (k : Shape) (files : List (ℕ × List ℕ)) (budget : ℕ) (jo
     → ((c : Caller) → who_of c ≡ a.who → IsJobDone k files budget c a b job block)
     → SoFar k files budget jobs first a loads searches rest blocks
     → SoFar k files budget jobs first b (loads + loads_in job.order) (searches + searches_in job.order) later (blocks ++ block ∷ [])
-so_far_own k files budget jobs first a b loads searches job rest later blocks block is same own done so = λ number c who end more d.
+so_far_own k files budget jobs first a b loads searches job rest later blocks block is same own done so = λ number c who.
+    let s = so number c who in
     let mine = done c (who ∙ sym same) in
-    let one : Done = record { dealt = dealt_as k number loads searches job; answer = mine.answer } in
-    let Rest : Account → List Done → Type 0 = λ between x. OwnDone k files budget c between end (dealt_from k number (loads + loads_in job.order) (searches + searches_in job.order) later) x in
-    let step : OwnStep k files budget c a (dealt_as k number loads searches job) (one ∷ more) Rest true = (one, more, b, refl, refl, mine.by_file, mine.answered, d) in
-    let now : OwnDone k files budget c a end (dealt_from k number loads searches rest) (one ∷ more) =
-    subst (λ (l : List Job). OwnDone k files budget c a end (dealt_from k number loads searches l) (one ∷ more)) (sym is)
-    (subst (λ (t : Bool). OwnStep k files budget c a (dealt_as k number loads searches job) (one ∷ more) Rest t) (own c (who ∙ sym same)) step) in
-    let all = so number c who end (one ∷ more) now in
-    (all.0, all.1, all.2 ∙ ap (λ (x : Block). blocks ++ x ∷ map done_block more) (sym mine.block_is) ∙ sym (append_assoc blocks (block ∷ []) (map done_block more)))
+    let one : Done = record { dealt = dealt_as k number loads searches job; answer = mine.answer } in (
+      s.0 ++ one.dealt ∷ [],
+      s.1 ++ one ∷ [],
+      one_passed k jobs number loads searches job rest later s.0 is s.2,
+      own_more k files budget c first a b s.0 s.1 one (own c (who ∙ sym same)) mine.by_file mine.answered s.3,
+      ap (λ (l : List Block). l ++ block ∷ []) s.4 ∙ ap (λ (x : Block). map done_block s.1 ++ x ∷ []) mine.block_is ∙ sym (map-append done_block s.1 (one ∷ [])),
+    )
 
 -- another's job is passed over
 pub so_far_other : (k : Shape) (files : List (ℕ × List ℕ)) (budget : ℕ) (jobs : List Job) (first a : Account) (loads searches : ℕ) (job : Job) (rest later : List Job) (blocks : List Block)
     → rest ≡ job ∷ later → a.who ≡ first.who → ((c : Caller) → who_of c ≡ a.who → false ≡ is_same (caller_of k loads searches job.order) c)
     → SoFar k files budget jobs first a loads searches rest blocks
     → SoFar k files budget jobs first a (loads + loads_in job.order) (searches + searches_in job.order) later blocks
-so_far_other k files budget jobs first a loads searches job rest later blocks is same other so = λ number c who end more d.
-    let Rest : Account → List Done → Type 0 = λ between x. OwnDone k files budget c between end (dealt_from k number (loads + loads_in job.order) (searches + searches_in job.order) later) x in
-    let now : OwnDone k files budget c a end (dealt_from k number loads searches rest) more =
-    subst (λ (l : List Job). OwnDone k files budget c a end (dealt_from k number loads searches l) more) (sym is)
-    (subst (λ (t : Bool). OwnStep k files budget c a (dealt_as k number loads searches job) more Rest t) (other c (who ∙ sym same)) d) in
-    so number c who end more now
+so_far_other k files budget jobs first a loads searches job rest later blocks is same other so = λ number c who.
+    let s = so number c who in
+    let one : Dealt = dealt_as k number loads searches job in (
+      s.0 ++ one ∷ [],
+      s.1,
+      one_passed k jobs number loads searches job rest later s.0 is s.2,
+      own_same k files budget c first a s.0 one s.1 (other c (who ∙ sym same)) s.3,
+      s.4,
+    )
 
 -- the counts as they were computed
 pub so_far_at : (k : Shape) (files : List (ℕ × List ℕ)) (budget : ℕ) (jobs : List Job) (first a : Account) (l s l' s' : ℕ) (rest : List Job) (blocks blocks' : List Block)

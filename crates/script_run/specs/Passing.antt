@@ -1,11 +1,10 @@
 -- The places of a worker that its gate is told.
-use Rattle.std.specs.Prelude.{◌≡◌, ℕ, List, [], ◌∷◌, ◌++◌, Bool, true, false, MatchBool, Option, filter, flat_map}
+use Rattle.std.specs.Prelude.{◌≡◌, ℕ, List, [], ◌∷◌, ◌++◌, Bool, true, false, MatchBool, Option, flat_map}
 use mathlib.Core.Option.{some}
 use lib.ListN.{get_elem?}
 use Rattle.htss_defs.specs.declared.shape.Shape.{Shape}
 use Rattle.script_text.specs.declared.script.Job.{Job}
 use Rattle.report_rules.specs.Dealing.{Caller, loader, searcher, Dealt, dealt_from}
-use Rattle.report_rules.specs.Rules.{is_same}
 use Rattle.board_core.specs.declared.account.Who.{Who}
 use Rattle.board_jobs.specs.Answering.{who_of}
 use Rattle.board_jobs.specs.Ends.{caller_at}
@@ -14,6 +13,7 @@ use Rattle.script_run.specs.declared.gate.Place.TheVariants.{Before, After}
 use Rattle.script_run.specs.declared.gate.Worker.{Worker}
 use Rattle.script_run.specs.declared.walk.Outcome.{Outcome}
 use Rattle.script_run.specs.Passed.{passed_more}
+use Rattle.script_run.specs.Working.{own_jobs}
 
 -- where the caller stands before and after its job on a line
 abbrev pub before_job : Caller → ℕ → Place
@@ -29,7 +29,7 @@ around_job caller line = before_job caller line ∷ after_job caller line ∷ []
 
 -- before and after each of the caller's own among these jobs, in their order
 abbrev pub around_own : Caller → List Dealt → List Place
-around_own caller jobs = flat_map (λ job. around_job caller job.job.line) (filter (λ job. is_same job.caller caller) jobs)
+around_own caller jobs = flat_map (λ job. around_job caller job.job.line) (own_jobs caller jobs)
 
 -- those of a group's jobs. The group's number does not matter
 abbrev pub own_places : Shape → List Job → Caller → List Place

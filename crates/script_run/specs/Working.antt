@@ -1,5 +1,5 @@
 -- What workers need, and what each does of the jobs of a group.
-use Rattle.std.specs.Prelude.{◌≡◌, ℕ, ◌+◌, ◌≤◌, List, [], ◌∷◌, length, Bool, true, false}
+use Rattle.std.specs.Prelude.{◌≡◌, ℕ, ◌+◌, ◌≤◌, List, length, map, filter, flat_map, All}
 use mathlib.Core.Option.{some}
 use lib.ListN.{get_elem?}
 use Rattle.htss_defs.specs.declared.shape.Shape.{Shape}
@@ -19,13 +19,13 @@ pub record AreCallers (b : Place) (callers : List Seated) : Type 0 where
   pub each : (i : ℕ) (c : Seated) → get_elem? callers i ≡ some c → IsOf b c × (c.account.who ≡ caller_after b.shape i) × IsReady c.account
   pub room : (i : ℕ) (c : Seated) → get_elem? callers i ≡ some c → length c.account.room.used ≤ b.shape.room
 
--- a job that is the caller's own is done, and the rest goes on from there; another's is passed over
-abbrev pub OwnStep : Shape → List (ℕ × List ℕ) → ℕ → Caller → Account → Dealt → List Done → (Account → List Done → Type 0) → Bool → Type 0
-OwnStep k files budget caller a job own Rest true = (one : Done) × (more : List Done) × (between : Account) × (own ≡ one ∷ more) × (one.dealt ≡ job) × IsByItsFile files budget one
-    × AreAnswered k caller a between (answers_of one.answer) × Rest between more
-OwnStep k files budget caller a job own Rest false = Rest a own
+-- the caller's own among these jobs
+abbrev pub own_jobs : Caller → List Dealt → List Dealt
+own_jobs caller jobs = filter (λ job. is_same job.caller caller) jobs
 
--- a caller's own jobs among those dealt are done, in order, and no others
-abbrev pub OwnDone : Shape → List (ℕ × List ℕ) → ℕ → Caller → Account → Account → List Dealt → List Done → Type 0
-OwnDone k files budget caller a b [] own = (b ≡ a) × (own ≡ [])
-OwnDone k files budget caller a b (job ∷ jobs) own = OwnStep k files budget caller a job own (λ between more. OwnDone k files budget caller between b jobs more) (is_same job.caller caller)
+-- a caller's own jobs among those dealt are done, in order, and no others: each has an answer by its file, and the caller's account has
+-- gained these answers, in order, and no others
+pub record OwnDone (k : Shape) (files : List (ℕ × List ℕ)) (budget : ℕ) (caller : Caller) (a b : Account) (jobs : List Dealt) (own : List Done) : Type 0 where
+  pub dealt_are : map (λ one. one.dealt) own ≡ own_jobs caller jobs
+  pub by_files : All (IsByItsFile files budget) own
+  pub answered : AreAnswered k caller a b (flat_map (λ one. answers_of one.answer) own)

@@ -6,8 +6,6 @@ mod gate;
 mod group;
 mod meet;
 mod merge;
-#[cfg(test)]
-mod tests;
 mod walk;
 
 pub use gate::{Gate, NoGate, Place, Worker};

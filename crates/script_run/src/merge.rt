@@ -1,7 +1,7 @@
 // The blocks of all workers, in the order of their jobs.
 ghost use Rattle.std.specs.Prelude.{◌≡◌, ◌+◌, ◌++◌, length, map, take, drop, IfOk, OnOk};
 ghost use Rattle.htss_defs.specs.Shapes.{IsShape};
-ghost use Rattle.script_run.specs.Merging.{in_turn, places_from};
+ghost use Rattle.script_run.specs.Merging.{AreQueues, IsMerged, places_from};
 
 use crate::dealing::{Count, counted, place_for};
 use crate::walk::Outcome;
@@ -30,7 +30,8 @@ pub fn merge(
 ) -> Result<Vec<Block>, OutOfMemory>
     requires shape { IsShape shape }
     requires count { length outcomes.old ≡ shape.loaders + shape.searchers }
-    ensures { IfOk result (λ blocks. blocks.items ≡ in_turn (places_from shape 0 0 group.now.jobs) (map (λ o. o.blocks.items) outcomes.old)) }
+    requires queues { AreQueues (places_from shape 0 0 group.now.jobs) (map (λ o. o.blocks.items) outcomes.old) }
+    ensures { IfOk result (λ blocks. IsMerged (places_from shape 0 0 group.now.jobs) (map (λ o. o.blocks.items) outcomes.old) blocks.items) }
 {
     let jobs = group.jobs.as_slice();
     let mut blocks = Vec::new(alloc);

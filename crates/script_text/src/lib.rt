@@ -8,8 +8,6 @@ mod numbers;
 mod reader;
 mod saying;
 mod script;
-#[cfg(test)]
-mod tests;
 
 pub use files::Files;
 pub use making::{MakeStop, make_file};

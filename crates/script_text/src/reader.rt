@@ -23,9 +23,9 @@ struct Begun {
 }
 
 /// The script of these bytes, or the first line at fault: one that is no line of a script, or the
-/// job past the 65,536th. Lines are counted from 1.
+/// job past the 65,536th. Lines are counted from 1, and there are fewer than 2^32 of them.
 pub fn read_script(alloc: Global, bytes: &[u8]) -> Result<Result<Script, ScriptFault>, OutOfMemory>
-    requires { length bytes.now < 2 ^ 32 }
+    requires { length (lines_of bytes.now) < 2 ^ 32 }
     ensures script { IfOk result (λ read. IfOk read (IsScriptOf (lines_of bytes.now))) }
     ensures fault { IfOk result (λ read.
         IfErr read (λ fault. IsFirstFault (lines_of bytes.now) fault.line)) }

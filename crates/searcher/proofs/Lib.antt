@@ -4,4 +4,3 @@ pub mod Living
 pub mod Rows
 pub mod Walks
 pub mod Answered
-pub mod Opened

@@ -5,7 +5,5 @@ mod at_front;
 mod blocks;
 mod live;
 mod sizes;
-#[cfg(test)]
-mod tests;
 
 pub use at_front::search;

@@ -1,12 +1,10 @@
-use Rattle.std.proofs.Common.{◌≡◌, ℕ, ◌+◌, ◌-◌, ◌^◌, ◌<◌, ◌≤◌, refl, ap, ◌∙◌, sym, subst, arith}
+use Rattle.std.proofs.Common.{◌+◌, ◌^◌, ◌<◌, refl, arith}
 use Rattle.htss_defs.specs.declared.shape.Shape.{Shape}
 use Rattle.board_core.specs.declared.account.Account.{Account}
-use Rattle.board_core.specs.Loaded.{KnowsBlock, KnowsHead, IsInTable}
-use Rattle.board_core.specs.Blocks.{block_size, atoms_in}
-use Rattle.board_core.specs.Words.{total_of}
-use Rattle.board_core.proofs.LoadBlock.{head_allowed, mark_allowed, fact_allowed}
-use Rattle.board.proofs.Tied.{same_table, same_shape, of_shape, of_both, stays}
-use Rattle.board.proofs.NextWord.{first_inside, word_inside, word_fits, block_fits, block_word, block_small, code_inside, code_asked}
+use Rattle.board_core.specs.Loaded.{KnowsBlock, IsInTable}
+use Rattle.board_core.proofs.LoadBlock.{mark_allowed}
+use Rattle.board.proofs.Tied.{same_table, of_shape, of_both}
+use Rattle.board.proofs.NextWord.{block_fits, block_word}
 use Rattle.board.proofs.blocks.load_mark.Goals as goal
 
 pub overflow_add-at : goal.overflow_add-at

@@ -1,10 +1,10 @@
-use Rattle.std.proofs.Common.{◌≡◌, ℕ, ◌+◌, ◌-◌, ◌^◌, ◌<◌, ◌≤◌, refl, ap, ◌∙◌, sym, subst, arith}
+use Rattle.std.proofs.Common.{ℕ, ◌+◌, ◌^◌, ◌<◌, ap, arith}
 use Rattle.htss_defs.specs.declared.shape.Shape.{Shape}
 use Rattle.board_core.specs.declared.account.Account.{Account}
 use Rattle.board_core.specs.Loaded.{IsInTable}
-use Rattle.board_core.specs.Steps.{MayPublish, MayEnd}
+use Rattle.board_core.specs.Steps.{MayEnd}
 use Rattle.board.proofs.Tied.{same_table, of_shape, of_key, of_both}
-use Rattle.board.proofs.NextWord.{block_word, block_fits, next_fits, shows_asked, ends_asked}
+use Rattle.board.proofs.NextWord.{block_word, block_fits, next_fits, ends_asked}
 use Rattle.board.proofs.regions.mark_ended.Goals as goal
 
 pub overflow_add-next : goal.overflow_add-next

@@ -1,9 +1,7 @@
-use Rattle.std.proofs.Common.{◌≡◌, ℕ, ◌+◌, ◌*◌, ◌-◌, ◌^◌, ◌<◌, ◌≤◌, refl, ap, ◌∙◌, sym, subst, arith}
-use Rattle.htss_defs.specs.declared.shape.Shape.{Shape}
+use Rattle.std.proofs.Common.{◌≡◌, ℕ, ◌+◌, ◌≤◌, ◌∙◌, sym, subst, arith}
 use Rattle.board_core.specs.declared.account.Account.{Account}
 use Rattle.board_core.specs.declared.account.Who.TheVariants.{Loader}
 use Rattle.board_core.specs.Words.{total_of}
-use Rattle.board_core.specs.RoomRule.{region_of}
 use Rattle.board.specs.Seated.{number_in}
 use Rattle.board.proofs.Tied.{same_shape, of_account, loader_is}
 use Rattle.board.proofs.NextWord.{region_end, total_small, loader_within}

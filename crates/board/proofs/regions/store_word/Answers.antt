@@ -1,14 +1,12 @@
-use Rattle.std.proofs.Common.{◌≡◌, ℕ, ◌+◌, ◌-◌, ◌^◌, ◌<◌, ◌≤◌, refl, ap, ◌∙◌, sym, subst, arith}
+use Rattle.std.proofs.Common.{ℕ, ◌+◌, ◌<◌, ◌∙◌, sym, subst, arith}
 use Rattle.htss_defs.specs.declared.shape.Shape.{Shape}
 use Rattle.board_core.specs.declared.account.Account.{Account}
-use Rattle.board_core.specs.declared.account.Who.TheVariants.{Loader}
 use Rattle.board_core.specs.Words.{total_of}
-use Rattle.board_core.specs.RoomRule.{region_of}
-use Rattle.board_core.specs.Steps.{MayStore, MaySeal}
+use Rattle.board_core.specs.Steps.{MayStore}
 use Rattle.board_core.proofs.StoreWord.{word_allowed}
 use Rattle.board.specs.Seated.{number_in}
 use Rattle.board.proofs.Tied.{same_table, same_shape, of_both, loader_is}
-use Rattle.board.proofs.NextWord.{next_word, total_small, room_at_most, loader_within, used_less, place_is, seal_asked}
+use Rattle.board.proofs.NextWord.{next_word, total_small, room_at_most, loader_within, used_less, place_is}
 use Rattle.board.proofs.regions.store_word.Goals as goal
 
 pub overflow_add-at : goal.overflow_add-at

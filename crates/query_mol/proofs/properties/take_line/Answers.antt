@@ -1,9 +1,9 @@
-use Rattle.std.proofs.Common.{sym, ◌∙◌}
+use Rattle.std.proofs.Common.{refl, sym, ◌∙◌}
 use Rattle.query_mol.proofs.Steps.{refused_first, over, refused_list, taken, passed_over, next_is}
 use Rattle.query_mol.proofs.properties.take_line.Goals as goal
 
 pub returns-in-Refused-clause-step : goal.returns-in-Refused-clause-step
-returns-in-Refused-clause-step c = let s = c.in-Refused.ensures.step in (s.0, refused_first _ _ _ s.1)
+returns-in-Refused-clause-step c = let s = c.in-Refused.ensures.step in (s.0, refused_first _ _ _ s.1, refl)
 
 pub returns-then-passing-clause-step : goal.returns-then-passing-clause-step
 returns-then-passing-clause-step c =
@@ -20,7 +20,7 @@ returns-then-next-clause-step c =
 pub returns-then-not-take_new_list-clause-step : goal.returns-then-not-take_new_list-clause-step
 returns-then-not-take_new_list-clause-step c =
     let s = c.in-Next.ensures.step in
-    (s.0, refused_list _ _ _ _ _ (next_is _ _ _ _ _ _ _ c.if-passing.false s.2 ∙ c.if-next.false) c.requires.same s.1 c.take_new_list.ensures.passes c.if-not-take_new_list.true)
+    (s.0, refused_list _ _ _ _ _ (next_is _ _ _ _ _ _ _ c.if-passing.false s.2 ∙ c.if-next.false) c.requires.same s.1 c.take_new_list.ensures.passes c.if-not-take_new_list.true, c.take_new_list.ensures.same c.if-not-take_new_list.true)
 
 pub returns-else-not-take_new_list-clause-step : goal.returns-else-not-take_new_list-clause-step
 returns-else-not-take_new_list-clause-step c =

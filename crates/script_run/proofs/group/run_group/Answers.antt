@@ -1,7 +1,7 @@
 use Rattle.std.proofs.Common.{◌≡◌, length, refl, arith}
 use Rattle.script_run.specs.Workers.{callers_of}
 use Rattle.script_run.proofs.Callers.{all_of, all_workers, met_callers}
-use Rattle.script_run.proofs.Groups.{all_merged, all_whole, gone_on, group_done, worked_callers}
+use Rattle.script_run.proofs.Groups.{all_merged, all_queues, all_whole, gone_on, group_done, lent_queues, worked_callers}
 use Rattle.script_run.proofs.Gates.{gates_before, gates_front, gates_whole}
 use Rattle.script_run.proofs.Walks.{on_err}
 use Rattle.script_run.proofs.group.run_group.Goals as goal
@@ -27,6 +27,16 @@ pub returns-in_err-blocks-clause-broken : goal.returns-in_err-blocks-clause-brok
 returns-in_err-blocks-clause-broken g c =
     on_err c.from_residual-in_err-blocks.result
     (gone_on c.args.board.now c.args.files.now c.args.budget c.args.group.now.jobs c.args.workers.now c.work_all.new.workers c.work_all.new.outcomes c.requires.callers c.work_all.ensures.did)
+
+pub merge-requires-clause-queues : goal.merge-requires-clause-queues
+merge-requires-clause-queues g c =
+    let b = c.args.board.now in
+    let os = c.work_all.new.outcomes in
+    let n = c.in_ok-outcomes.outcomes.len in
+    let all : n ≡ length os = omega arith in
+    lent_queues b.shape c.shape.result c.args.group.now.jobs c.deref_mut-2.result.now os _ n c.deref_mut-2.ensures.value all c.shape.ensures.value
+    (all_queues b c.args.files.now c.args.budget c.args.group.now.jobs c.args.workers.now c.work_all.new.workers os c.shape.ensures.limits
+    c.requires.callers c.work_all.ensures.did (all_whole c.deref.result.now os _ n c.deref.ensures.value all (c.if-not-are_whole.ensures refl)))
 
 pub meet-requires : goal.meet-requires
 meet-requires g c =

@@ -2,8 +2,8 @@ use Rattle.std.proofs.Common.{◌≡◌, ◌<◌, map, length, IfOk, get_or, ref
 use Rattle.std.proofs.lemmas.List.{take_all}
 use lib.Seq.{map-set_same}
 use Rattle.board.specs.Seated.{Seated, IsOf, Told}
-use Rattle.script_run.specs.Meeting.{most_seen, seen_at}
-use Rattle.script_run.proofs.Meets.{as_many, hear_next, read_at, read_same}
+use Rattle.script_run.specs.Meeting.{seen_at}
+use Rattle.script_run.proofs.Meets.{as_many, hear_next, is_most, most_seen, read_at, read_same}
 use Rattle.script_run.proofs.meet.hear_all.Goals as goal
 
 pub loop-other-init : goal.loop-other-init
@@ -39,9 +39,13 @@ loop-other-preserved g c =
 pub returns-clause-after : goal.returns-clause-after
 returns-clause-after g c =
     let cs = map (λ w. w.caller) c.args.others.now in
-    c.loop-other.invariant.heard
-    ∙ ap (λ l. seen_at (most_seen c.args.caller.now.account.log.seen l) c.args.caller.now)
-    (take_all c.loop-other.other-index cs (omega (arith, as_many (λ w. w.caller) c.args.others.now, c.loop-other-test.false)))
+    let front = c.args.caller.now.account.log.seen in (
+      most_seen front cs,
+      is_most front cs,
+      c.loop-other.invariant.heard
+          ∙ ap (λ l. seen_at (most_seen front l) c.args.caller.now)
+          (take_all c.loop-other.other-index cs (omega (arith, as_many (λ w. w.caller) c.args.others.now, c.loop-other-test.false))),
+    )
 
 pub returns-clause-same : goal.returns-clause-same
 returns-clause-same g c = c.loop-other.invariant.same

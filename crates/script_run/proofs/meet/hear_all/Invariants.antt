@@ -1,5 +1,6 @@
 use Rattle.std.proofs.Common.{◌≡◌, map, take}
-use Rattle.script_run.specs.Meeting.{most_seen, seen_at}
+use Rattle.script_run.specs.Meeting.{seen_at}
+use Rattle.script_run.proofs.Meets.{most_seen}
 use Rattle.script_run.proofs.meet.hear_all.Given as goal
 
 abbrev pub invariant-loop-other : goal.invariant-loop-other

@@ -1,5 +1,5 @@
 use Rattle.std.proofs.Common.{arith}
-use Rattle.script_run.proofs.Merges.{counts_few, merge_next}
+use Rattle.script_run.proofs.Merges.{counts_few, merge_all, merge_next}
 use Rattle.script_run.proofs.merge.merge.Goals as goal
 
 pub loop-job-preserved : goal.loop-job-preserved
@@ -15,3 +15,8 @@ loop-job-preserved c =
           c.loop-job-test.true c.job-item.is c.place_for-place.ensures.at (omega (arith, c.place_for-place.ensures.within, c.requires.count, c.loop-job.auto.outcomes))
           c.counted-count.ensures.loads c.counted-count.ensures.searches c.take_next.ensures.rest c.in_ok-take_next.ensures.taken c.loop-job.invariant.whole;
     }
+
+pub returns : goal.returns
+returns c =
+    merge_all c.args.shape c.loop-job.count.loads c.loop-job.count.searches c.as_slice-jobs.result.now c.args.group.now.jobs c.loop-job.job-index c.loop-job.blocks.items c.args.outcomes.now c.loop-job.outcomes
+    c.loop-job-test.false c.as_slice-jobs.ensures c.requires.queues c.loop-job.invariant.whole

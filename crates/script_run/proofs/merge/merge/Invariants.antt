@@ -1,6 +1,7 @@
 use Rattle.std.proofs.Common.{◌≡◌, ◌+◌, ◌≤◌, ◌++◌, map, drop}
-use Rattle.script_run.specs.Merging.{in_turn, places_from}
+use Rattle.script_run.specs.Merging.{places_from}
 use Rattle.script_run.proofs.Merges.{blocks_in}
+use Rattle.script_run.proofs.Queues.{in_turn}
 use Rattle.script_run.proofs.merge.merge.Given as goal
 
 abbrev pub invariant-loop-job : goal.invariant-loop-job

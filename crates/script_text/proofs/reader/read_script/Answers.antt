@@ -1,4 +1,4 @@
-use Rattle.std.proofs.Common.{◌≡◌, [], ap, ◌∙◌, arith}
+use Rattle.std.proofs.Common.{◌≡◌, [], length, ap, ◌∙◌, arith}
 use Rattle.std.specs.Prelude.{map}
 use Rattle.mol_section.specs.Lines.{lines_of, without_cr}
 use Rattle.mol_section.proofs.RawLines.{raw_lines-nil}
@@ -8,7 +8,7 @@ use Rattle.script_text.proofs.reader.read_script.Goals as goal
 pub loop-line-init : goal.loop-line-init
 loop-line-init c = record {
   read = rw (c.new.ensures.items, c.new-2.ensures.items) (started (lines_of c.args.bytes.now));
-  shorter = omega arith;
+  fewer = omega arith;
 }
 
 pub loop-line-preserved : goal.loop-line-preserved
@@ -17,7 +17,7 @@ loop-line-preserved c =
     let after = rw c.if-not-taken.false at c.in_ok-taken.ensures in
     record {
       read = taken _ _ _ _ _ read _ after;
-      shorter = omega (arith, c.in-Some.ensures.shorter, c.loop-line.invariant.shorter);
+      fewer = omega (arith, ap length c.in-Some.ensures.line, c.loop-line.invariant.fewer);
     }
 
 pub returns-then-not-taken-clause-fault : goal.returns-then-not-taken-clause-fault

@@ -6,7 +6,7 @@ use Rattle.script_text.proofs.reader.read_script.Given as goal
 abbrev pub invariant-loop-line : goal.invariant-loop-line
 invariant-loop-line l = record {
   read : IsReadTo (lines_of l.bytes) l.number (lines_of l.rest) (record { count = l.begun.count; ended = l.begun.ended.items; jobs = l.begun.jobs.items });
-  shorter : l.number + length l.rest ≤ length l.bytes;
+  fewer : l.number + length (lines_of l.rest) ≤ length (lines_of l.bytes);
 }
 
 abbrev pub decreases-loop-line : goal.decreases-loop-line

@@ -1,0 +1,8 @@
+use Rattle.board.specs.Seated.{IsLoader, IsAtRest}
+use Rattle.board_tests.proofs.staging.stages_until_the_region_is_full.Given as goal
+
+abbrev pub invariant-loop-wanted : goal.invariant-loop-wanted
+invariant-loop-wanted g l = record {
+  rest : IsAtRest l.board l.loader;
+  loader : IsLoader l.loader;
+}

@@ -1,0 +1,16 @@
+//! Tests of the commands that never wait: command lines over files in memory, drawn queries, files that are checked, made
+//! files, and a standard output that takes a few bytes at a time.
+#![tactic(auto)]
+
+#[cfg(test)]
+mod checked_files;
+#[cfg(test)]
+mod command_lines;
+#[cfg(test)]
+mod drawn_queries;
+#[cfg(test)]
+mod made;
+#[cfg(test)]
+mod made_files;
+#[cfg(test)]
+mod standard_output;
