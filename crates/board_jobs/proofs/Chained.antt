@@ -1,5 +1,5 @@
 -- Answers of one caller, one after the other.
-use Rattle.std.proofs.Common.{◌≡◌, ℕ, ◌≤◌, List, [], ◌∷◌, ◌++◌, length, map, sym, ap, subst, ◌∙◌, refl, All}
+use Rattle.std.proofs.Common.{◌≡◌, Result, Ok, Err, OnErr, IfErr, ℕ, ◌≤◌, List, [], ◌∷◌, ◌++◌, length, map, sym, ap, subst, ◌∙◌, refl, All}
 use Rattle.std.proofs.lemmas.List.{map-append}
 use Rattle.std.proofs.lemmas.List.Elements.{All-nil, All-cons}
 use Rattle.htss_defs.specs.declared.shape.Shape.{Shape}
@@ -104,3 +104,13 @@ told_one a b e at more = ap (λ (ns : List Noted). map (λ n. n.entry) ns) more 
 -- a loader stays one
 pub loader_stays : (c d : Seated) → d.account.who ≡ c.account.who → IsLoader c → IsLoader d
 loader_stays c d same is = subst (λ (w : Who). w ≡ Loader (number_in w)) (sym same) is
+
+-- ---- what holds after any error
+
+pub on_err : {A E : Type 0} {P : Type 0} (r : Result A E) → P → OnErr r P
+on_err (Ok x) is = tt
+on_err (Err e) is = is
+
+pub if_err : {A E : Type 0} {P : Type 0} (r : Result A E) → P → IfErr r (λ e. P)
+if_err (Ok x) is = tt
+if_err (Err e) is = is

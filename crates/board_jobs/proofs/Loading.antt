@@ -4,14 +4,15 @@ use Rattle.std.proofs.lemmas.List.{map-append, length-map, append-nil}
 use Rattle.htss_defs.specs.declared.shape.Shape.{Shape}
 use Rattle.mol_section.specs.SectionRecord.{Outcome}
 use Rattle.ctfile.specs.RecordList.{IsRecordList}
-use Rattle.ctfile.specs.Stream.{HasRead, ReaderState}
+use Rattle.ctfile.specs.Stream.{HasRead, ReaderState, empty_state}
+use Rattle.ctfile.proofs.Answered.{HasRead-empty}
 use Rattle.report_text.specs.declared.report.LoadLine.{LoadLine}
 use Rattle.report_rules.specs.Answers.{RecordAnswer, not_accepted, to_record, outcome_of, record_line, record_lines}
 use Rattle.board_core.specs.declared.account.Account.{Account}
 use Rattle.board_core.proofs.Grown.{grows_same}
 use Rattle.board_jobs.specs.Telling.{entries_in}
 use Rattle.board_jobs.specs.Answering.{AreAnswered}
-use Rattle.board_jobs.specs.Calls.{Answers, AreLoaded, IsLoaded}
+use Rattle.board_jobs.specs.Calls.{Answers, AreLoaded, HaveBegun, IsBegun, IsLoaded}
 use Rattle.board_jobs.proofs.Chained.{all_none, answered_both, answered_one}
 
 record_lines-push : (place : ℕ) (records : List RecordAnswer) (one : RecordAnswer) → record_lines place (records ++ one ∷ []) ≡ record_lines place records ++ record_line (place + length records) one ∷ []
@@ -92,3 +93,29 @@ loaded-still k a b stream after reader other lines reads loaded = record {
   who = loaded.who;
   answers = loaded.answers;
 }
+
+-- ---- memory ran out
+
+pub begun-loaded : (k : Shape) (a b : Account) (stream : List ℕ) (reader : ReaderState) (lines : List LoadLine) → AreLoaded k a b stream reader lines → HaveBegun k a b stream
+begun-loaded k a b stream reader lines loaded = record { records = loaded.records; reader = reader; read = loaded.read; answers = loaded.answers }
+
+-- after a record more, of which there is no line
+pub begun-more : (k : Shape) (start a b : Account) (stream : List ℕ) (reader after : ReaderState) (lines : List LoadLine) (one : RecordAnswer)
+    → ((stream : List ℕ) (outcomes : List Outcome) → HasRead stream outcomes reader → HasRead stream (outcomes ++ outcome_of one ∷ []) after)
+    → Answers k a b (to_record one)
+    → AreLoaded k start a stream reader lines
+    → HaveBegun k start b stream
+begun-more k start a b stream reader after lines one reads answers before = record {
+  records = before.records ++ one ∷ [];
+  reader = after;
+  read = subst (λ outcomes. HasRead stream outcomes after) (sym (map-append outcome_of before.records (one ∷ []))) (reads stream (map outcome_of before.records) before.read);
+  answers = λ c who. subst (λ all. AreAnswered k c start b all) (sym (map-append to_record before.records (one ∷ [])))
+      (answered_both k c start a b (map to_record before.records) (to_record one ∷ []) (before.answers c who) (answered_one k c a b (to_record one) (answers c (who ∙ sym before.who))));
+}
+
+-- of a front of the file
+pub begun-front : (k : Shape) (a b : Account) (bytes stream rest : List ℕ) → bytes ≡ stream ++ rest → HaveBegun k a b stream → IsBegun k a b bytes
+begun-front k a b bytes stream rest parts begun = record { records = begun.records; first = (stream, rest, begun.reader, parts, begun.read); answers = begun.answers }
+
+pub begun-none : (k : Shape) (a : Account) (bytes : List ℕ) → IsBegun k a a bytes
+begun-none k a bytes = record { records = []; first = ([], bytes, empty_state, refl, HasRead-empty empty_state refl refl refl refl); answers = λ c who. refl }

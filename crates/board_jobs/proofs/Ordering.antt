@@ -1,5 +1,5 @@
 -- A job, answered with its block.
-use Rattle.std.proofs.Common.{◌≡◌, ℕ, ◌≤◌, List, length, sym, ap, subst, refl}
+use Rattle.std.proofs.Common.{◌≡◌, ℕ, ◌≤◌, List, [], ◌∷◌, length, map, sym, ap, subst, refl}
 use Rattle.std.specs.Prelude.{Option, Some, None}
 use Rattle.std.specs.Option.{unwrap_or}
 use Rattle.htss_defs.specs.declared.shape.Shape.{Shape}
@@ -11,7 +11,7 @@ use Rattle.report_text.specs.declared.report.Block.TheVariants.{Load, Withdraw, 
 use Rattle.report_text.specs.declared.report.LoadLine.{LoadLine}
 use Rattle.report_text.specs.declared.report.WithdrawLine.{WithdrawLine}
 use Rattle.report_text.specs.declared.report.SearchLine.{SearchLine}
-use Rattle.report_rules.specs.Answers.{loaded, withdrew, searched, to_withdrawal, to_search}
+use Rattle.report_rules.specs.Answers.{loaded, withdrew, searched, to_record, to_withdrawal, to_search}
 use Rattle.report_rules.specs.Dealing.{Caller, loader, searcher}
 use Rattle.report_rules.specs.Reports.{IsAnswerTo, IsSearchFor, budget_or}
 use Rattle.board_core.specs.declared.account.Account.{Account}
@@ -19,8 +19,8 @@ use Rattle.board_core.specs.declared.account.Who.{Who}
 use Rattle.board_core.specs.declared.account.Who.TheVariants.{Loader}
 use Rattle.board.specs.Seated.{Place, Seated, IsOf, IsLoader, number_in}
 use Rattle.board_jobs.specs.Answering.{who_of}
-use Rattle.board_jobs.specs.Jobs.{IsReady, IsFor, IsJobDone}
-use Rattle.board_jobs.specs.Calls.{IsAtWork, IsLoaded, IsOrderOf, IsSearched, IsWithdrawal}
+use Rattle.board_jobs.specs.Jobs.{IsReady, IsFor, IsJobDone, IsJobBroken, IsQuietOrFor, AreBegun}
+use Rattle.board_jobs.specs.Calls.{IsAtWork, IsBegun, IsLoaded, IsOrderOf, IsSearched, IsWithdrawal, SearchBroke}
 use Rattle.board_jobs.proofs.Chained.{answered_one}
 
 pub at_work : (b : Place) (c : Seated) → IsOf b c → IsReady c.account → length c.account.room.used ≤ b.shape.room → IsAtWork b c
@@ -82,4 +82,28 @@ job-searched k files budget job a b file copy bytes own used line is has same un
           (subst (λ found. IsAnswerTo found budget (order.Search file own) answer) (sym has) (same, subst (λ most. IsSearchFor bytes most told.answer) under told.searched));
       block_is = ap (λ shown. Search job.line copy shown) told.line_is;
       answered = answered_one k c a b (to_search told.answer) (told.answers c who);
+    }
+
+-- ---- memory ran out
+
+pub load-broken : (k : Shape) (files : List (ℕ × List ℕ)) (budget : ℕ) (job : Job) (a b : Account) (file bytes : List ℕ) → job.order ≡ order.Load file → bytes_at files job.line ≡ Some bytes → IsBegun k a b bytes
+    → (c : Caller) → who_of c ≡ a.who → IsJobBroken k files budget c a b job
+load-broken k files budget job a b file bytes is has begun c who =
+    let answers = map to_record begun.records in
+    record {
+      answers = answers;
+      begun = subst (λ o. AreBegun (bytes_at files job.line) budget o answers) (sym is)
+          (subst (λ found. AreBegun found budget (order.Load file) answers) (sym has) (begun.records, begun.first, refl));
+      answered = begun.answers c who;
+    }
+
+pub search-broken : (k : Shape) (files : List (ℕ × List ℕ)) (budget : ℕ) (job : Job) (a b : Account) (file bytes : List ℕ) (own : Option ℕ) (used : ℕ) → job.order ≡ order.Search file own → bytes_at files job.line ≡ Some bytes
+    → used ≡ budget_or budget own → SearchBroke k a b bytes used → (c : Caller) → who_of c ≡ a.who → IsJobBroken k files budget c a b job
+search-broken k files budget job a b file bytes own used is has under broke c who =
+    let answers = to_search broke.answer ∷ [] in
+    record {
+      answers = answers;
+      begun = subst (λ o. AreBegun (bytes_at files job.line) budget o answers) (sym is)
+          (subst (λ found. AreBegun found budget (order.Search file own) answers) (sym has) (broke.answer, subst (λ most. IsQuietOrFor bytes most broke.answer) under broke.said, refl));
+      answered = answered_one k c a b (to_search broke.answer) (broke.answers c who);
     }

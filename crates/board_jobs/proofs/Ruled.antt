@@ -1,5 +1,5 @@
 -- The rules of a report's lines follow from what the jobs did to the callers' accounts.
-use Rattle.std.proofs.Common.{◌≡◌, ℕ, ◌+◌, ◌≤◌, List, [], ◌∷◌, ◌++◌, length, map, set, take, sym, ap, subst, ◌∙◌, All, arith, append_assoc}
+use Rattle.std.proofs.Common.{◌≡◌, ℕ, ◌+◌, ◌≤◌, List, [], ◌∷◌, ◌++◌, length, get_or, map, set, take, sym, ap, subst, ◌∙◌, All, arith, append_assoc}
 use Rattle.std.specs.List.{flat_map}
 use Rattle.std.proofs.lemmas.Grind.{flat_map-append}
 use Rattle.std.proofs.lemmas.List.{append-nil}
@@ -25,11 +25,12 @@ use Rattle.board_jobs.specs.Answering.{AreAnswered}
 use Rattle.board_jobs.specs.Apart.{AreApart}
 use Rattle.board_jobs.specs.Groups.{place_of, AreDone, AreGroupsDone, AreNew}
 use Rattle.board_jobs.specs.Ends.{HaveGoneOn, IsEnd}
+use Rattle.board_jobs.specs.Rows.{HaveTheirRows}
 use Rattle.board_jobs.proofs.Places.{elem_at, set_here, set_same, set_twice}
 use Rattle.board_jobs.proofs.Marks.{AreSeen, all_right}
 use Rattle.board_jobs.proofs.Stand.{Stands, stands_all, stand_jobs, stand_met, stand_groups, stand_middle}
 use Rattle.board_jobs.proofs.Keeping.{MayOwn}
-use Rattle.board_jobs.proofs.Cut.{keeps_cut}
+use Rattle.board_jobs.proofs.Cut.{keeps_cut, rows_cut}
 use Rattle.board_jobs.proofs.Fits.{IsCaller, AllFit, all_fit}
 use Rattle.board_jobs.proofs.Kept.{HasSeen, Kept, kept_new, kept_answer, kept_met}
 
@@ -110,6 +111,16 @@ module _ (k : Shape) (files : List (ℕ × List ℕ)) (budget : ℕ) (groups : L
   -- no group has seen an event of a later one
   pub apart : IsShape k → AreNew k before → AreGroupsDone k files budget 1 groups before middle front done → HaveGoneOn k middle last → IsEnd k p last → AreApart (flat_map done_lines done)
   apart shape new are gone end = (all_kept shape new are gone end).1.apart
+
+  -- each search has its rows
+  pub rowed : IsShape k → AreNew k before → AreGroupsDone k files budget 1 groups before middle front done → HaveGoneOn k middle last → IsEnd k p last → HaveTheirRows (take front (history_of k p)) (flat_map done_lines done)
+  rowed shape new are gone end =
+      let kept = (all_kept shape new are gone end).1 in
+      λ i d within.
+      let line : Line = get_or (flat_map done_lines done) i d in
+      let seen : HasSeen k middle line = kept.own i d within in
+      let here : seen.by.log.seen ≡ front = front_seen k files budget groups 1 before middle front done are (place_of k line.caller) seen.by seen.there in
+      rows_cut k (history_of k p) front (front_within shape new are gone end) line.answer (subst (λ (n : ℕ). AreSeen n line) here seen.seen) (kept.rows i d within)
 
   pub ruled : IsShape k → AreNew k before → AreGroupsDone k files budget 1 groups before middle front done → HaveGoneOn k middle last → IsEnd k p last
       → (earlier later : List Line) (line : Line) → flat_map done_lines done ≡ earlier ++ line ∷ later → KeepsRule k (take front (history_of k p)) earlier line

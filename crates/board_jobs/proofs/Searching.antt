@@ -1,5 +1,5 @@
 -- What a search answers, and what it leaves of the account.
-use Rattle.std.proofs.Common.{◌≡◌, ℕ, ◌+◌, ◌≤◌, List, [], ◌∷◌, length, map, sym, ap, subst, ◌∙◌, refl, arith}
+use Rattle.std.proofs.Common.{◌≡◌, ⊎_elim, inl, inr, ℕ, ◌+◌, ◌≤◌, List, [], ◌∷◌, length, map, sym, ap, subst, ◌∙◌, refl, arith}
 use Rattle.std.proofs.lemmas.List.{append-nil}
 use Rattle.std.specs.Prelude.{Ok, Err}
 use Rattle.htss_defs.specs.declared.shape.Shape.{Shape}
@@ -9,7 +9,8 @@ use Rattle.query_mol.specs.QueryOutcome.{IsFirstQueryOutcome}
 use Rattle.reg_model.specs.Searches.{Counts}
 use Rattle.report_text.specs.declared.report.SearchLine.{SearchLine}
 use Rattle.report_text.specs.declared.report.SearchLine.TheVariants.{Hits, OverBudget, Refused}
-use Rattle.report_rules.specs.Answers.{Answer, to_search, not_read, hits_at, over_at}
+use Rattle.report_rules.specs.Reports.{IsSearchFor}
+use Rattle.report_rules.specs.Answers.{Answer, SearchAnswer, to_search, not_read, hits_at, over_at}
 use Rattle.board_core.specs.declared.account.Account.{Account}
 use Rattle.board_core.specs.declared.entry.Entry.{Entry}
 use Rattle.board_core.specs.declared.entry.Entry.TheVariants.{Answered}
@@ -18,10 +19,10 @@ use Rattle.board_core.specs.declared.entry.Reply.TheVariants as reply
 use Rattle.board_core.specs.After.{fronted}
 use Rattle.board_core.proofs.Grown.{grows_same}
 use Rattle.board.specs.Seated.{Place, Seated, IsOf}
-use Rattle.searcher.specs.Searched.{IsSearched as Searched}
+use Rattle.searcher.specs.Searched.{CountsRows, IsSearched as Searched}
 use Rattle.searcher.specs.Walking.{Whatever}
-use Rattle.board_jobs.specs.Telling.{entries_in}
-use Rattle.board_jobs.specs.Calls.{Answers, GoesOn, IsAtWork, IsSearched, TellsReply}
+use Rattle.board_jobs.specs.Telling.{entries_in, search_entries}
+use Rattle.board_jobs.specs.Calls.{Answers, GoesOn, IsAtWork, IsOfQuery, IsSearched, QueryBroke, SearchBroke, TellsReply}
 use Rattle.board_jobs.proofs.Chained.{all_one, all_none, told_one, IsFreed, ready_after, goes_on-one}
 
 seen_in : (a b : Account) (front : ℕ) (es : List Entry) → Searched a b front es → b.log.seen ≡ front
@@ -32,8 +33,8 @@ used_in a b front es s = let same : length b.room.used ≡ length a.room.used = 
 
 hits-answers : (k : Shape) (a b : Account) (asked : QueryGraph) (budget front : ℕ) (hits : List Hit) (rows records : ℕ) → a.log.seen ≤ front
     → Searched a b front (Answered asked budget front (reply.Hits hits) ∷ []) → Whatever k b front (λ h. Counts asked h records)
-    → Answers k a b (to_search (hits_at asked budget front hits rows records))
-hits-answers k a b asked budget front hits rows records later s counted c who =
+    → Whatever k b front (λ h. CountsRows h rows) → Answers k a b (to_search (hits_at asked budget front hits rows records))
+hits-answers k a b asked budget front hits rows records later s counted rowed c who =
     let told : Entry = Answered asked budget front (reply.Hits hits) in
     let seen = seen_in a b front (told ∷ []) s in record {
       who = s.who;
@@ -43,7 +44,7 @@ hits-answers k a b asked budget front hits rows records later s counted c who =
       fresh = all_none _;
       fronts = all_one (λ mark. a.log.seen ≤ mark) front later;
       used = used_in a b front (told ∷ []) s;
-      says = counted;
+      says = (counted, rowed);
       grows = s.grown;
     }
 
@@ -93,13 +94,14 @@ same-answers k a line code c who = record {
 
 -- ---- the lines
 
-pub told-hits : (b : Place) (c d : Seated) (asked : QueryGraph) (budget front : ℕ) (found hits : List Hit) (rows records kept : ℕ) → hits ≡ found → kept ≡ records → c.account.log.seen ≤ front
+pub told-hits : (b : Place) (c d : Seated) (asked : QueryGraph) (budget front : ℕ) (found hits : List Hit) (rows records kept read : ℕ) → hits ≡ found → kept ≡ records → read ≡ rows → c.account.log.seen ≤ front
     → Searched c.account d.account front (Answered asked budget front (reply.Hits found) ∷ []) → Whatever b.shape d.account front (λ h. Counts asked h records)
-    → TellsReply b.shape c.account d.account asked budget (Hits front hits rows kept)
-told-hits b c d asked budget front found hits rows records kept same count later s counted =
-    subst (λ (x : List Hit). Answers b.shape c.account d.account (to_search (hits_at asked budget front x rows kept))) (sym same)
-    (subst (λ (n : ℕ). Answers b.shape c.account d.account (to_search (hits_at asked budget front found rows n))) (sym count)
-    (hits-answers b.shape c.account d.account asked budget front found rows records later s counted))
+    → Whatever b.shape d.account front (λ h. CountsRows h rows) → TellsReply b.shape c.account d.account asked budget (Hits front hits read kept)
+told-hits b c d asked budget front found hits rows records kept read same count all later s counted rowed =
+    subst (λ (x : List Hit). Answers b.shape c.account d.account (to_search (hits_at asked budget front x read kept))) (sym same)
+    (subst (λ (n : ℕ). Answers b.shape c.account d.account (to_search (hits_at asked budget front found read n))) (sym count)
+    (subst (λ (n : ℕ). Answers b.shape c.account d.account (to_search (hits_at asked budget front found n records))) (sym all)
+    (hits-answers b.shape c.account d.account asked budget front found rows records later s counted rowed)))
 
 pub told-over : (b : Place) (c d : Seated) (asked : QueryGraph) (budget front : ℕ) → c.account.log.seen ≤ front
     → Searched c.account d.account front (Answered asked budget front reply.OverBudget ∷ []) → TellsReply b.shape c.account d.account asked budget (OverBudget front budget)
@@ -116,11 +118,11 @@ on-searched b c d front es answer work of s answers =
     } in
     goes_on-one b c d answer (record { of = of; ready = ready_after b c.account d.account work.ready freed; room = freed.room }) s.who answers
 
-pub on-hits : (b : Place) (c d : Seated) (asked : QueryGraph) (budget front : ℕ) (found : List Hit) (records : ℕ) → IsAtWork b c → IsOf b d → c.account.log.seen ≤ front
-    → Searched c.account d.account front (Answered asked budget front (reply.Hits found) ∷ []) → Whatever b.shape d.account front (λ h. Counts asked h records) → GoesOn b c d
-on-hits b c d asked budget front found records work of later s counted =
-    on-searched b c d front (Answered asked budget front (reply.Hits found) ∷ []) (to_search (hits_at asked budget front found 0 records)) work of s
-    (hits-answers b.shape c.account d.account asked budget front found 0 records later s counted)
+pub on-hits : (b : Place) (c d : Seated) (asked : QueryGraph) (budget front : ℕ) (found : List Hit) (rows records : ℕ) → IsAtWork b c → IsOf b d → c.account.log.seen ≤ front
+    → Searched c.account d.account front (Answered asked budget front (reply.Hits found) ∷ []) → Whatever b.shape d.account front (λ h. Counts asked h records) → Whatever b.shape d.account front (λ h. CountsRows h rows) → GoesOn b c d
+on-hits b c d asked budget front found rows records work of later s counted rowed =
+    on-searched b c d front (Answered asked budget front (reply.Hits found) ∷ []) (to_search (hits_at asked budget front found rows records)) work of s
+    (hits-answers b.shape c.account d.account asked budget front found rows records later s counted rowed)
 
 pub on-over : (b : Place) (c d : Seated) (asked : QueryGraph) (budget front : ℕ) → IsAtWork b c → IsOf b d → c.account.log.seen ≤ front
     → Searched c.account d.account front (Answered asked budget front reply.OverBudget ∷ []) → GoesOn b c d
@@ -149,3 +151,39 @@ pub searched-told : (k : Shape) (a b : Account) (bytes : List ℕ) (asked : Quer
 searched-told k a b bytes asked budget (Hits front hits rows records) is told = record { answer = hits_at asked budget front hits rows records; searched = (is, refl); line_is = refl; answers = told }
 searched-told k a b bytes asked budget (OverBudget front own) is told = record { answer = over_at asked own front; searched = (is, told.0); line_is = refl; answers = told.1 }
 searched-told k a b bytes asked budget (Refused at code) is told = absurd told
+
+-- ---- memory ran out
+
+-- the search was answered
+pub broke-hits : (b : Place) (c d : Seated) (asked : QueryGraph) (budget front : ℕ) (found : List Hit) (rows records : ℕ) → c.account.log.seen ≤ front
+    → Searched c.account d.account front (Answered asked budget front (reply.Hits found) ∷ []) → Whatever b.shape d.account front (λ h. Counts asked h records)
+    → Whatever b.shape d.account front (λ h. CountsRows h rows) → QueryBroke b.shape c.account d.account asked budget
+broke-hits b c d asked budget front found rows records later s counted rowed = record {
+  answer = hits_at asked budget front found rows records;
+  said = inr (refl, refl);
+  answers = hits-answers b.shape c.account d.account asked budget front found rows records later s counted rowed;
+}
+
+-- it was not
+pub broke-none : (b : Place) (c d : Seated) (asked : QueryGraph) (budget front : ℕ) → Searched c.account d.account front [] → QueryBroke b.shape c.account d.account asked budget
+broke-none b c d asked budget front s =
+    let seen = seen_in c.account d.account front [] s in
+    let grown = s.grown.seen in
+    record { answer = not_read 0 0; said = inl refl; answers = quiet-answers b.shape c.account d.account 0 0 front (omega (arith, seen, grown)) s }
+
+-- nothing was done
+pub broke-same : (k : Shape) (a : Account) (bytes : List ℕ) (budget : ℕ) → SearchBroke k a a bytes budget
+broke-same k a bytes budget = record { answer = not_read 0 0; said = inl refl; answers = same-answers k a 0 0 }
+
+-- by the query of the file
+for_query : (bytes : List ℕ) (asked : QueryGraph) (budget : ℕ) (answer : SearchAnswer) → IsFirstQueryOutcome bytes (Ok asked) → IsOfQuery asked budget answer → IsSearchFor bytes budget answer
+for_query bytes asked budget (not_read line code) is of = absurd of
+for_query bytes asked budget (hits_at query own front hits rows records) is of = (subst (λ (q : QueryGraph). IsFirstQueryOutcome bytes (Ok q)) (sym of.0) is, of.1)
+for_query bytes asked budget (over_at query own front) is of = (subst (λ (q : QueryGraph). IsFirstQueryOutcome bytes (Ok q)) (sym of.0) is, of.1)
+
+pub broke-query : (k : Shape) (a b : Account) (bytes : List ℕ) (asked : QueryGraph) (budget : ℕ) → IsFirstQueryOutcome bytes (Ok asked) → QueryBroke k a b asked budget → SearchBroke k a b bytes budget
+broke-query k a b bytes asked budget is broke = record {
+  answer = broke.answer;
+  said = ⊎_elim (λ (quiet : search_entries broke.answer ≡ []). inl quiet) (λ (of : IsOfQuery asked budget broke.answer). inr (for_query bytes asked budget broke.answer is of)) broke.said;
+  answers = broke.answers;
+}

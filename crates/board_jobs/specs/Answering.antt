@@ -18,6 +18,7 @@ use Rattle.board_core.specs.Words.{Parts}
 use Rattle.board_core.specs.Histories.{history_of, IsOpen}
 use Rattle.board_core.specs.Steps.{MayBe}
 use Rattle.board_core.specs.Loaded.{Grows}
+use Rattle.searcher.specs.Searched.{CountsRows}
 use Rattle.board_jobs.specs.Telling.{entries_in, tells}
 
 abbrev pub who_of : Caller → Who
@@ -27,6 +28,10 @@ who_of (searcher number) = Searcher number
 -- so many of the screened records are told of, whatever the board is by what the account has loaded
 abbrev pub AreCounted : Shape → Account → QueryGraph → ℕ → ℕ → Type 0
 AreCounted k a asked front records = (p : Parts) → MayBe k p a → Counts asked (take front (history_of k p)) records
+
+-- so many atoms have the records that are live at this front, whatever the board is
+abbrev pub AreRows : Shape → Account → ℕ → ℕ → Type 0
+AreRows k a front rows = (p : Parts) → MayBe k p a → CountsRows (take front (history_of k p)) rows
 
 -- the number could be withdrawn at this front, whatever the board is
 abbrev pub WasOpen : Shape → Account → ℕ → ℕ → Type 0
@@ -48,7 +53,7 @@ SaysOfWithdrawal k after number (LogFull front) = (front ≡ k.log) × WasOpen k
 
 abbrev pub SaysOfSearch : Shape → Account → SearchAnswer → Type 0
 SaysOfSearch k after (not_read line code) = Unit {0}
-SaysOfSearch k after (hits_at asked budget front hits rows records) = AreCounted k after asked front records
+SaysOfSearch k after (hits_at asked budget front hits rows records) = AreCounted k after asked front records × AreRows k after front rows
 SaysOfSearch k after (over_at asked budget front) = Unit {0}
 
 abbrev pub Says : Shape → ℕ → Account → Answer → Type 0

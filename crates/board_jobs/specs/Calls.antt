@@ -1,5 +1,5 @@
 -- What the calls of a job need of their caller, what they leave of it, and what they answer.
-use Rattle.std.specs.Prelude.{◌≡◌, ℕ, ◌≤◌, List, length, map}
+use Rattle.std.specs.Prelude.{◌≡◌, ◌⊎◌, ℕ, ◌≤◌, List, [], length, map}
 use Rattle.htss_defs.specs.declared.record.NamedMol.{NamedMol}
 use Rattle.htss_defs.specs.declared.shape.Shape.{Shape}
 use Rattle.htss_defs.specs.QueryGraph.{QueryGraph}
@@ -12,7 +12,7 @@ use Rattle.report_text.specs.declared.report.LoadLine.TheVariants as line
 use Rattle.report_text.specs.declared.report.WithdrawLine.{WithdrawLine}
 use Rattle.report_text.specs.declared.report.SearchLine.{SearchLine}
 use Rattle.report_text.specs.declared.report.SearchLine.TheVariants.{Hits, OverBudget, Refused}
-use Rattle.report_rules.specs.Answers.{Answer, to_record, to_search, to_withdrawal, Fate, RecordAnswer, taken, SearchAnswer, hits_at, over_at}
+use Rattle.report_rules.specs.Answers.{Answer, to_record, to_search, to_withdrawal, Fate, RecordAnswer, taken, SearchAnswer, not_read, hits_at, over_at}
 use Rattle.report_rules.specs.Answers.{fate_line, outcome_of, record_lines, search_line}
 use Rattle.report_rules.specs.Dealing.{Caller}
 use Rattle.report_rules.specs.Reports.{IsSearchFor}
@@ -20,8 +20,9 @@ use Rattle.board_core.specs.declared.account.Account.{Account}
 use Rattle.board.specs.Seated.{Place, Seated, IsOf, IsLoader}
 use Rattle.loader.specs.declared.stages.StageError.{StageError}
 use Rattle.loader.specs.declared.stages.StageError.TheVariants.{DataFull}
+use Rattle.board_jobs.specs.Telling.{search_entries}
 use Rattle.board_jobs.specs.Answering.{who_of, IsAnswered, AreAnswered}
-use Rattle.board_jobs.specs.Jobs.{IsReady, IsJobBroken}
+use Rattle.board_jobs.specs.Jobs.{IsReady, IsQuietOrFor, AreFirstRecords}
 
 -- one of the board's callers, ready for a call; what it has stored lies within its region
 pub record IsAtWork (b : Place) (c : Seated) : Type 0 where
@@ -39,7 +40,7 @@ IsOrderOf c (Search file budget) = Unit {0}
 pub record GoesOn (b : Place) (old new : Seated) : Type 0 where
   pub work : IsAtWork b new
   pub who : new.account.who ≡ old.account.who
-  pub answers : (c : Caller) → who_of c ≡ old.account.who → IsJobBroken b.shape c old.account new.account
+  pub answers : (c : Caller) → who_of c ≡ old.account.who → (answers : List Answer) × AreAnswered b.shape c old.account new.account answers
 
 -- the caller has given this answer
 abbrev pub Answers : Shape → Account → Account → Answer → Type 0
@@ -61,6 +62,19 @@ pub record AreLoaded (k : Shape) (a b : Account) (stream : List ℕ) (reader : R
   pub read : HasRead stream (map outcome_of records) reader
   pub lines_are : lines ≡ record_lines 1 records
   pub who : b.who ≡ a.who
+  pub answers : (c : Caller) → who_of c ≡ a.who → AreAnswered k c a b (map to_record records)
+
+-- memory ran out: the first records of the stream are answered, as a reader has read them
+pub record HaveBegun (k : Shape) (a b : Account) (stream : List ℕ) : Type 0 where
+  pub records : List RecordAnswer
+  pub reader : ReaderState
+  pub read : HasRead stream (map outcome_of records) reader
+  pub answers : (c : Caller) → who_of c ≡ a.who → AreAnswered k c a b (map to_record records)
+
+-- memory ran out: the first records of the file are answered
+pub record IsBegun (k : Shape) (a b : Account) (bytes : List ℕ) : Type 0 where
+  pub records : List RecordAnswer
+  pub first : AreFirstRecords bytes records
   pub answers : (c : Caller) → who_of c ≡ a.who → AreAnswered k c a b (map to_record records)
 
 -- all records of the file are answered with these lines
@@ -85,4 +99,22 @@ pub record IsSearched (k : Shape) (a b : Account) (bytes : List ℕ) (budget : �
   pub answer : SearchAnswer
   pub searched : IsSearchFor bytes budget answer
   pub line_is : line ≡ search_line answer
+  pub answers : Answers k a b (to_search answer)
+
+-- the answer is one to this query under this budget
+abbrev pub IsOfQuery : QueryGraph → ℕ → SearchAnswer → Type 0
+IsOfQuery query budget (not_read line code) = ⊥
+IsOfQuery query budget (hits_at asked own front hits rows records) = (asked ≡ query) × (own ≡ budget)
+IsOfQuery query budget (over_at asked own front) = (asked ≡ query) × (own ≡ budget)
+
+-- memory ran out in a search: it was answered, or no entry was added
+pub record QueryBroke (k : Shape) (a b : Account) (query : QueryGraph) (budget : ℕ) : Type 0 where
+  pub answer : SearchAnswer
+  pub said : (search_entries answer ≡ []) ⊎ IsOfQuery query budget answer
+  pub answers : Answers k a b (to_search answer)
+
+-- the same by the query of a file
+pub record SearchBroke (k : Shape) (a b : Account) (bytes : List ℕ) (budget : ℕ) : Type 0 where
+  pub answer : SearchAnswer
+  pub said : IsQuietOrFor bytes budget answer
   pub answers : Answers k a b (to_search answer)

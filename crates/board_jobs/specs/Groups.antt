@@ -1,5 +1,5 @@
 -- What the jobs of groups do to the accounts of all callers, loaders first, then searchers.
-use Rattle.std.specs.Prelude.{◌≡◌, ℕ, ◌+◌, ◌-◌, ◌≤◌, List, [], ◌∷◌, ◌++◌, length, map, set, All}
+use Rattle.std.specs.Prelude.{◌≡◌, ◌⊎◌, ℕ, ◌+◌, ◌-◌, ◌≤◌, List, [], ◌∷◌, ◌++◌, length, map, set, All, Contains}
 use mathlib.Core.Option.{some}
 use lib.ListN.{get_elem?}
 use Rattle.htss_defs.specs.declared.shape.Shape.{Shape}
@@ -30,12 +30,13 @@ abbrev pub AreDone : Shape → List Account → List Account → List Done → T
 AreDone k before after [] = after ≡ before
 AreDone k before after (one ∷ more) = (between : List Account) × JobIsDone k before between one × AreDone k between after more
 
--- all callers have met: each has then seen this front, and no account had seen more
 abbrev pub with_seen : ℕ → Account → Account
 with_seen front a = record a { log = record a.log { seen = front } }
 
+-- all callers have met: each has then seen this front, the greatest that one of them had seen, or 0
 pub record HaveMet (before after : List Account) (front : ℕ) : Type 0 where
   pub most : Each (λ a. a.log.seen ≤ front) before
+  pub reached : (front ≡ 0) ⊎ Contains (map (λ a. a.log.seen) before) front
   pub after_is : after ≡ map (with_seen front) before
 
 -- the jobs of a group are done as they are dealt, and the callers have met

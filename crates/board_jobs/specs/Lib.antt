@@ -5,4 +5,5 @@ pub mod Ends
 pub mod Jobs
 pub mod Printed
 pub mod Apart
+pub mod Rows
 pub mod Calls

@@ -4,7 +4,7 @@ ghost use Rattle.report_rules.specs.Dealing.{Caller as ScriptCaller};
 ghost use Rattle.board.specs.Seated.{IsOf, IsLoader};
 ghost use Rattle.board_jobs.specs.Answering.{who_of};
 ghost use Rattle.board_jobs.specs.Jobs.{IsReady, IsThere, IsJobDone, IsJobBroken};
-ghost use Rattle.board_jobs.specs.Calls.{GoesOn, IsAtWork, IsOrderOf, IsSearched, IsWithdrawal, TellsReply};
+ghost use Rattle.board_jobs.specs.Calls.{GoesOn, IsAtWork, IsOrderOf, IsSearched, IsWithdrawal, QueryBroke, SearchBroke, TellsReply};
 
 use crate::copies::{copied_file, copied_hits};
 use crate::load::load_file;
@@ -17,7 +17,8 @@ use script_text::{Files, Job, Order};
 use std::alloc::Global;
 use std::sync::Wait;
 
-/// Does a job, and answers its block. The list of hits is only there to be used again. An `Err` is want of memory.
+/// Does a job, and answers its block. The list of hits is only there to be used again. An `Err` is want of memory: of a load the first
+/// records may have been answered then, and a search may have been.
 pub fn do_job<R: Wait>(
     rt: &R,
     alloc: Global,
@@ -40,13 +41,14 @@ pub fn do_job<R: Wait>(
     ensures done { IfOk result (λ block. (c : ScriptCaller) → who_of c ≡ caller.old.account.who
         → IsJobDone board.now.shape files.now budget c caller.old.account caller.new.account job.now block) }
     ensures broken { IfErr result (λ _. (c : ScriptCaller) → who_of c ≡ caller.old.account.who
-        → IsJobBroken board.now.shape c caller.old.account caller.new.account) }
+        → IsJobBroken board.now.shape files.now budget c caller.old.account caller.new.account job.now) }
 {
     let line = job.line;
     match &job.order {
         Order::Load { file } => {
-            let answers = load_file(rt, alloc, board, caller, files.at(line))?;
+            let bytes = files.at(line);
             let file = copied_file(alloc, file)?;
+            let answers = load_file(rt, alloc, board, caller, bytes)?;
             let answers = LoadLines::new(answers);
             Ok(Block::Load {
                 line,
@@ -64,9 +66,10 @@ pub fn do_job<R: Wait>(
             })
         }
         Order::Search { file, budget: own } => {
+            let bytes = files.at(line);
             let budget = own.unwrap_or(budget);
-            let answer = search(alloc, board, caller, files.at(line), budget, hits)?;
             let file = copied_file(alloc, file)?;
+            let answer = search(alloc, board, caller, bytes, budget, hits)?;
             Ok(Block::Search { line, file, answer })
         }
     }
@@ -100,6 +103,7 @@ fn search(
     requires work { IsAtWork board.now caller.old }
     requires size { length bytes.now < 2 ^ 32 }
     ensures searched { IfOk result (λ line. IsSearched board.now.shape caller.old.account caller.new.account bytes.now budget line) }
+    ensures broken { IfErr result (λ _. SearchBroke board.now.shape caller.old.account caller.new.account bytes.now budget) }
     ensures goes_on { GoesOn board.now caller.old caller.new }
 {
     match read_query(alloc, bytes)? {
@@ -122,6 +126,7 @@ fn search_for(
 ) -> Result<SearchLine, OutOfMemory>
     requires work { IsAtWork board.now caller.old }
     ensures told { IfOk result (λ line. TellsReply board.now.shape caller.old.account caller.new.account query.now budget line) }
+    ensures broken { IfErr result (λ _. QueryBroke board.now.shape caller.old.account caller.new.account query.now budget) }
     ensures goes_on { GoesOn board.now caller.old caller.new }
 {
     match searcher::search(alloc, board, caller, query, budget, hits) {

@@ -1,12 +1,12 @@
 // The records of a file, published as they are read.
-ghost use Rattle.std.specs.Prelude.{◌≡◌, ℕ, ◌+◌, ◌<◌, ◌^◌, ◌++◌, List, length, true, IfOk, OnOk};
+ghost use Rattle.std.specs.Prelude.{◌≡◌, ℕ, ◌+◌, ◌<◌, ◌^◌, ◌++◌, List, length, true, IfOk, IfErr, OnOk, OnErr};
 ghost use Rattle.htss_defs.specs.Marked.{IsMarked};
 ghost use Rattle.mol_section.specs.SectionRecord.{Outcome};
 ghost use Rattle.ctfile.specs.RecordList.{IsRecordList};
 ghost use Rattle.ctfile.specs.Stream.{HasRead};
 ghost use Rattle.board_core.specs.declared.account.Account.{Account};
 ghost use Rattle.board.specs.Seated.{IsLoader};
-ghost use Rattle.board_jobs.specs.Calls.{AreLoaded, GoesOn, IsAtWork, IsLoaded, IsTaken, room_line};
+ghost use Rattle.board_jobs.specs.Calls.{AreLoaded, GoesOn, HaveBegun, IsAtWork, IsBegun, IsLoaded, IsTaken, room_line};
 
 use board::{Board, Caller};
 use ctfile::{Next, RecordReader};
@@ -33,6 +33,7 @@ pub fn load_file<R: Wait>(
     requires loader { IsLoader caller.old }
     requires size { length bytes.now < 2 ^ 32 }
     ensures loaded { IfOk result (λ lines. IsLoaded board.now.shape caller.old.account caller.new.account bytes.now lines.items) }
+    ensures broken { IfErr result (λ _. IsBegun board.now.shape caller.old.account caller.new.account bytes.now) }
     ensures goes_on { GoesOn board.now caller.old caller.new }
 {
     let mut reader = RecordReader::new(alloc)?;
@@ -64,6 +65,9 @@ fn publish_read<R: Wait>(
     ensures loaded { OnOk result ((start : Account) (stream : List ℕ)
         → AreLoaded board.now.shape start caller.old.account stream reader.old lines.old.items
         → AreLoaded board.now.shape start caller.new.account stream reader.new lines.new.items) }
+    ensures broken { OnErr result ((start : Account) (stream : List ℕ)
+        → AreLoaded board.now.shape start caller.old.account stream reader.old lines.old.items
+        → HaveBegun board.now.shape start caller.new.account stream) }
     ensures goes_on { GoesOn board.now caller.old caller.new }
     ensures finished { OnOk result (reader.new.finished ≡ reader.old.finished) }
     ensures fed { OnOk result (reader.new.fed ≡ reader.old.fed) }

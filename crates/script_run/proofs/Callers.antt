@@ -1,5 +1,6 @@
 -- The callers of a board: before they work, after it, and when they have met.
-use Rattle.std.proofs.Common.{◌≡◌, ℕ, ◌≤◌, List, [], ◌∷◌, length, map, get_or, All, refl, sym, ap, subst, ◌∙◌, arith}
+use Rattle.std.proofs.Common.{◌≡◌, ◌⊎◌, ℕ, ◌≤◌, List, [], ◌∷◌, length, map, get_or, All, refl, sym, ap, subst, ◌∙◌, arith}
+use Rattle.std.specs.Prelude.{Contains}
 use Rattle.std.proofs.lemmas.List.{length-map}
 use mathlib.Core.Option.{some}
 use lib.ListN.{get_elem?}
@@ -81,6 +82,10 @@ module _ {G : Type 0} where
   accounts_by [] = refl
   accounts_by (w ∷ ws) = ap (λ (l : List Account). w.caller.account ∷ l) (accounts_by ws)
 
+  seen_by : (ws : List (Worker G)) → map (λ c. c.account.log.seen) (callers_of ws) ≡ map (λ (a : Account). a.log.seen) (accounts_of ws)
+  seen_by [] = refl
+  seen_by (w ∷ ws) = ap (λ (l : List ℕ). w.caller.account.log.seen ∷ l) (seen_by ws)
+
 seen_accounts : (front : ℕ) (cs : List Seated) → map account_of (map (seen_at front) cs) ≡ map (with_seen front) (map account_of cs)
 seen_accounts front [] = refl
 seen_accounts front (c ∷ cs) = ap (λ (l : List Account). with_seen front c.account ∷ l) (seen_accounts front cs)
@@ -97,6 +102,7 @@ module _ {G : Type 0} where
             let less : (get_or cs i w.0.caller).account.log.seen ≤ front = met.is_most.seen_within i w.0.caller (inside cs i w.0.caller at) in
             let now : w.0.caller.account.log.seen ≤ front = subst (λ (x : Seated). x.account.log.seen ≤ front) (or_there cs i w.0.caller w.0.caller at) less in
             subst (λ (x : Account). x.log.seen ≤ front) w.2 now;
+        reached = subst (λ (l : List ℕ). (front ≡ 0) ⊎ Contains l front) (seen_by ws) met.is_most.one_of_them;
         after_is = accounts_by vs ∙ ap (λ (l : List Seated). map account_of l) met.after_is ∙ seen_accounts front cs
             ∙ ap (λ (l : List Account). map (with_seen front) l) (sym (accounts_by ws));
       }

@@ -1,5 +1,5 @@
 -- The jobs of a group: what each worker did of them, together.
-use Rattle.std.proofs.Common.{◌≡◌, ℕ, zero, suc, ◌+◌, ◌%◌, ◌<◌, Bool, true, false, MatchBool, List, [], ◌∷◌, ◌++◌, length, map, flat_map, take, All, refl, sym, ap, subst, ◌∙◌, arith}
+use Rattle.std.proofs.Common.{◌≡◌, ℕ, zero, suc, ◌+◌, ◌%◌, ◌<◌, Bool, true, false, MatchBool, List, [], ◌∷◌, ◌++◌, length, map, take, All, refl, sym, ap, subst, ◌∙◌, arith}
 use Rattle.std.proofs.lemmas.List.{length-map}
 use Rattle.std.proofs.lemmas.List.Elements.{All-nil, All-cons}
 use Rattle.std.proofs.lemmas.Nat.{mod_below}
@@ -13,7 +13,7 @@ use Rattle.script_text.specs.declared.script.Job.{Job}
 use Rattle.script_text.specs.declared.script.Order.{Order}
 use Rattle.script_text.specs.declared.script.Order.TheVariants.{Load, Withdraw, Search}
 use Rattle.report_text.specs.declared.report.Block.{Block}
-use Rattle.report_rules.specs.Dealing.{Dealt, caller_of, dealt_from, loads_in, searches_in}
+use Rattle.report_rules.specs.Dealing.{Dealt, caller_of, dealt_from, dealt_group, loads_in, searches_in}
 use Rattle.report_rules.specs.Reports.{Done, IsByItsFile, done_block}
 use Rattle.board.specs.Seated.{Place, Seated}
 use Rattle.board_core.specs.declared.account.Account.{Account}
@@ -22,20 +22,19 @@ use Rattle.board_jobs.proofs.Places.{at_map, map_back}
 use Rattle.board_jobs.specs.Answering.{who_of}
 use Rattle.board_jobs.specs.Ends.{HaveGoneOn, caller_at}
 use Rattle.board_jobs.specs.Groups.{AreDone, GroupIsDone}
-use Rattle.board_jobs.specs.Jobs.{IsJobBroken}
 use Rattle.script_run.specs.declared.gate.Worker.{Worker}
 use Rattle.script_run.specs.declared.walk.Outcome.{Outcome}
 use Rattle.script_run.specs.Meeting.{SawMost}
 use Rattle.script_run.specs.Merging.{AreQueues, IsMerged, places_from, places_of}
-use Rattle.script_run.specs.Walking.{Broke, DidAll, DidJobs, DidOwn}
+use Rattle.script_run.specs.Walking.{Broke, DidAll, DidJobs, DidOwn, GroupIsBroken}
 use Rattle.script_run.specs.Workers.{accounts_of, callers_of}
-use Rattle.script_run.specs.Working.{AreCallers, OwnDone}
+use Rattle.script_run.specs.Working.{AreCallers, OwnBroken, OwnDone}
 use Rattle.script_run.proofs.Callers.{have_met, still_callers, who_there}
 use Rattle.script_run.proofs.Merges.{blocks_in, same_places}
-use Rattle.script_run.proofs.Own.{told_by}
 use Rattle.script_run.proofs.Places.{IsSeat, agree, loader_seat, one_there, or_there, searcher_seat, there}
 use Rattle.script_run.proofs.Queues.{merged_mapped, merged_queues, one_merged}
 use Rattle.script_run.proofs.Together.{AreOwn, together}
+use Rattle.script_run.proofs.Walks.{broke_all, broke_answers, broke_none}
 
 -- ---- what each worker did
 
@@ -76,37 +75,53 @@ worked_callers b files budget jobs cs ds os all did =
 
 -- ---- each has gone on by answers
 
-either_answers : (k : Shape) (files : List (ℕ × List ℕ)) (budget : ℕ) (jobs : List Job) (a b : Account) (blocks : List Block) (whole : Bool)
-    → MatchBool whole (DidJobs k files budget jobs a b blocks) (Broke k a b) → Broke k a b
-either_answers k files budget jobs a b blocks true did = λ c who. let own = did 0 c who in (flat_map told_by own.0, own.1.answered)
-either_answers k files budget jobs a b blocks false did = did
+-- whether all of its jobs were done or not
+either_broke : (k : Shape) (files : List (ℕ × List ℕ)) (budget : ℕ) (jobs : List Job) (a b : Account) (blocks : List Block) (whole : Bool)
+    → MatchBool whole (DidJobs k files budget jobs a b blocks) (Broke k files budget jobs a b) → Broke k files budget jobs a b
+either_broke k files budget jobs a b blocks true did = broke_all k files budget jobs a b blocks did
+either_broke k files budget jobs a b blocks false did = did
 
 module _ {G : Type 0} where
   as_many_accounts : (ws : List (Worker G)) → length (accounts_of ws) ≡ length (callers_of ws)
   as_many_accounts [] = refl
   as_many_accounts (w ∷ ws) = ap suc (as_many_accounts ws)
 
-  pub gone_on : (b : Place) (files : List (ℕ × List ℕ)) (budget : ℕ) (jobs : List Job) (ws vs : List (Worker G)) (os : List Outcome)
-      → AreCallers b (callers_of ws) → DidAll b files budget jobs (callers_of ws) (callers_of vs) os → HaveGoneOn b.shape (accounts_of ws) (accounts_of vs)
-  gone_on b files budget jobs ws vs os all did =
+  pub group_broken : (b : Place) (files : List (ℕ × List ℕ)) (budget : ℕ) (group : Group) (ws vs : List (Worker G)) (os : List Outcome)
+      → AreCallers b (callers_of ws) → DidAll b files budget group.jobs (callers_of ws) (callers_of vs) os → GroupIsBroken b.shape files budget group (accounts_of ws) (accounts_of vs)
+  group_broken b files budget group ws vs os all did =
       let cs : List Seated = callers_of ws in
       let ds : List Seated = callers_of vs in
-      let count = did_count b files budget jobs cs ds os did in
+      let count = did_count b files budget group.jobs cs ds os did in
       record {
         count = as_many_accounts vs ∙ count.0 ∙ sym (as_many_accounts ws);
-        each = λ i x y before after.
+        each = λ i x y before after number.
             let w = map_back (λ (z : Worker G). z.caller.account) ws i x before in
             let v = map_back (λ (z : Worker G). z.caller.account) vs i y after in
             let c : get_elem? cs i ≡ some w.0.caller = at_map (λ (z : Worker G). z.caller) ws i w.0 w.1 in
             let d : get_elem? ds i ≡ some v.0.caller = at_map (λ (z : Worker G). z.caller) vs i v.0 v.1 in
             let o = there os i (omega (arith, inside cs i w.0.caller c, count.1)) in
-            let own = did_at b files budget jobs cs ds os did i w.0.caller v.0.caller o.0 c d o.1 in
-            let answers : IsJobBroken b.shape (caller_at b.shape i) w.0.caller.account v.0.caller.account =
-            either_answers b.shape files budget jobs w.0.caller.account v.0.caller.account o.0.blocks.items o.0.whole own.did (caller_at b.shape i)
+            let own = did_at b files budget group.jobs cs ds os did i w.0.caller v.0.caller o.0 c d o.1 in
+            let jobs : List Dealt = dealt_group b.shape number group in
+            let broke : OwnBroken b.shape files budget (caller_at b.shape i) w.0.caller.account v.0.caller.account jobs =
+            either_broke b.shape files budget group.jobs w.0.caller.account v.0.caller.account o.0.blocks.items o.0.whole own.did number (caller_at b.shape i)
             (who_there b cs all i w.0.caller c) in
-            subst (λ (z : Account). IsJobBroken b.shape (caller_at b.shape i) x z) v.2
-            (subst (λ (z : Account). IsJobBroken b.shape (caller_at b.shape i) z v.0.caller.account) w.2 answers);
+            subst (λ (z : Account). OwnBroken b.shape files budget (caller_at b.shape i) x z jobs) v.2
+            (subst (λ (z : Account). OwnBroken b.shape files budget (caller_at b.shape i) z v.0.caller.account jobs) w.2 broke);
       }
+
+  -- nothing was done yet
+  pub group_unbegun : (k : Shape) (files : List (ℕ × List ℕ)) (budget : ℕ) (group : Group) (ws : List (Worker G)) → GroupIsBroken k files budget group (accounts_of ws) (accounts_of ws)
+  group_unbegun k files budget group ws = record {
+    count = refl;
+    each = λ i x y before after number.
+        subst (λ (z : Account). OwnBroken k files budget (caller_at k i) x z (dealt_group k number group)) (some-injective x y (sym before ∙ after)) (broke_none k files budget group.jobs x (caller_at k i) number);
+  }
+
+pub gone_on : (k : Shape) (files : List (ℕ × List ℕ)) (budget : ℕ) (group : Group) (first last : List Account) → GroupIsBroken k files budget group first last → HaveGoneOn k first last
+gone_on k files budget group first last broke = record {
+  count = broke.count;
+  each = λ i a b before after. broke_answers k files budget (caller_at k i) a b (dealt_group k 0 group) (broke.each i a b before after 0);
+}
 
 -- ---- where all did their jobs
 
@@ -164,7 +179,7 @@ module _ {G : Type 0} where
       let full : o.0.whole ≡ true = subst (λ (z : Outcome). z.whole ≡ true) (or_there os i o.0 o.0 o.1) (whole i o.0 (inside os i o.0 o.1)) in
       own_told b.shape files budget number jobs (accounts_of ws) (accounts_of vs) (map blocks_in os) i w.0.caller.account v.0.caller.account o.0.blocks.items
       (at_map (λ (z : Worker G). z.caller.account) ws i w.0 w.1) (at_map (λ (z : Worker G). z.caller.account) vs i v.0 v.1) (at_map blocks_in os i o.0 o.1) (who_there b cs all i w.0.caller c)
-      (at_whole (DidJobs b.shape files budget jobs w.0.caller.account v.0.caller.account o.0.blocks.items) (Broke b.shape w.0.caller.account v.0.caller.account) o.0.whole full own.did)
+      (at_whole (DidJobs b.shape files budget jobs w.0.caller.account v.0.caller.account o.0.blocks.items) (Broke b.shape files budget jobs w.0.caller.account v.0.caller.account) o.0.whole full own.did)
 
   -- the list of each worker's own, and its blocks tell it
   own_lists : (b : Place) (files : List (ℕ × List ℕ)) (budget number : ℕ) (jobs : List Job) (ws vs : List (Worker G)) (os : List Outcome)

@@ -1,5 +1,5 @@
 -- A worker goes from job to job, and all workers beside each other.
-use Rattle.std.proofs.Common.{◌≡◌, ℕ, zero, suc, ◌+◌, ◌<◌, ◌≤◌, Result, Ok, Err, is_ok, OnOk, OnErr, MatchBool, Bool, true, false, List, [], ◌∷◌, ◌++◌, map, length, drop, set, get_or, All, refl, sym, ap, subst, ◌∙◌, arith, append_assoc, append-nil}
+use Rattle.std.proofs.Common.{◌≡◌, ⊎_elim, inl, inr, ℕ, zero, suc, ◌+◌, ◌<◌, ◌≤◌, Result, Ok, Err, is_ok, OnOk, OnErr, MatchBool, Bool, true, false, List, [], ◌∷◌, ◌++◌, map, flat_map, length, drop, set, get_or, All, refl, sym, ap, subst, ◌∙◌, arith, append_assoc, append-nil}
 use Rattle.std.proofs.lemmas.List.{map-append}
 use Rattle.std.proofs.lemmas.List.Elements.{All-nil, All-cons, All-head, All-tail}
 use Rattle.htss_defs.specs.declared.shape.Shape.{Shape}
@@ -7,7 +7,7 @@ use Rattle.script_text.specs.declared.script.Job.{Job}
 use Rattle.script_text.specs.declared.script.Order.{Order}
 use Rattle.script_text.specs.declared.script.Order.TheVariants.{Load, Withdraw, Search}
 use Rattle.report_text.specs.declared.report.Block.{Block}
-use Rattle.report_rules.specs.Answers.{answers_of}
+use Rattle.report_rules.specs.Answers.{Answer}
 use Rattle.report_rules.specs.Dealing.{Caller, loader, searcher, Dealt, dealt_from, caller_of, loads_in, searches_in}
 use Rattle.report_rules.specs.Reports.{Done, done_block}
 use Rattle.report_rules.specs.Rules.{is_same}
@@ -15,24 +15,14 @@ use Rattle.board_core.specs.declared.account.Account.{Account}
 use Rattle.board_core.specs.declared.account.Who.{Who}
 use Rattle.board.specs.Seated.{Place, Seated, IsLoader, number_in}
 use Rattle.board_jobs.proofs.Chained.{answered_both}
-use Rattle.board_jobs.specs.Answering.{who_of}
+use Rattle.board_jobs.specs.Answering.{who_of, AreAnswered}
 use Rattle.board_jobs.specs.Jobs.{IsJobDone}
 use Rattle.board_jobs.specs.Calls.{IsOrderOf}
-use Rattle.script_run.specs.Walking.{Broke, CanWork, DidJobs, DidOwn, DidAll}
-use Rattle.script_run.specs.Working.{OwnDone}
+use Rattle.script_run.specs.Walking.{Broke, JobBroke, CanWork, DidJobs, DidOwn, DidAll}
+use Rattle.script_run.specs.Working.{OwnBroken, OwnDone, StoppedIn}
 use Rattle.script_run.proofs.Merges.{counts_few, drop_here}
-use Rattle.script_run.proofs.Own.{own_more, own_nothing, own_same}
+use Rattle.script_run.proofs.Own.{own_more, own_nothing, own_same, told_by}
 use Rattle.script_run.specs.declared.walk.Outcome.{Outcome}
-
-pub broke_none : (k : Shape) (a : Account) → Broke k a a
-broke_none k a = λ c who. ([], refl)
-
-pub broke_more : (k : Shape) (a b d : Account) → b.who ≡ a.who → Broke k a b → Broke k b d → Broke k a d
-broke_more k a b d same f g = λ c who. let x = f c who in let y = g c (who ∙ sym same) in (x.0 ++ y.0, answered_both k c a b d x.0 y.0 x.1 y.1)
-
-pub broke_done : (k : Shape) (files : List (ℕ × List ℕ)) (budget : ℕ) (a b : Account) (job : Job) (block : Block)
-    → ((c : Caller) → who_of c ≡ a.who → IsJobDone k files budget c a b job block) → Broke k a b
-broke_done k files budget a b job block done = λ c who. let d = done c who in (answers_of d.answer, d.answered)
 
 -- what the caller has done of its own, up to the jobs that are left
 abbrev pub SoFar : Shape → List (ℕ × List ℕ) → ℕ → List Job → Account → Account → ℕ → ℕ → List Job → List Block → Type 0
@@ -93,6 +83,43 @@ so_far_other k files budget jobs first a loads searches job rest later blocks is
       s.4,
     )
 
+-- memory ran out when so much was done
+pub broke_here : (k : Shape) (files : List (ℕ × List ℕ)) (budget : ℕ) (jobs : List Job) (first a : Account) (loads searches : ℕ) (rest : List Job) (blocks : List Block)
+    → SoFar k files budget jobs first a loads searches rest blocks → Broke k files budget jobs first a
+broke_here k files budget jobs first a loads searches rest blocks so = λ number c who.
+    let s = so number c who in
+    record { past = s.0; later = dealt_from k number loads searches rest; parts = s.2; own = s.1; between = a; did = s.3; stopped = inl refl }
+
+-- or in the next job
+broke_next : (k : Shape) (files : List (ℕ × List ℕ)) (budget : ℕ) (jobs : List Job) (first a b : Account) (loads searches : ℕ) (job : Job) (rest later : List Job) (blocks : List Block)
+    → rest ≡ job ∷ later → a.who ≡ first.who → ((c : Caller) → who_of c ≡ a.who → true ≡ is_same (caller_of k loads searches job.order) c)
+    → JobBroke k files budget a b job → SoFar k files budget jobs first a loads searches rest blocks → Broke k files budget jobs first b
+broke_next k files budget jobs first a b loads searches job rest later blocks is same own broke so = λ number c who.
+    let s = so number c who in
+    let mine = who ∙ sym same in
+    let next : List Dealt = dealt_from k number (loads + loads_in job.order) (searches + searches_in job.order) later in
+    let stopped : StoppedIn k files budget c a b (dealt_from k number loads searches rest) =
+    (dealt_as k number loads searches job, next, ap (λ (l : List Job). dealt_from k number loads searches l) is, own c mine, broke c mine) in
+    record { past = s.0; later = dealt_from k number loads searches rest; parts = s.2; own = s.1; between = a; did = s.3; stopped = inr stopped }
+
+-- all was done, or nothing
+pub broke_all : (k : Shape) (files : List (ℕ × List ℕ)) (budget : ℕ) (jobs : List Job) (a b : Account) (blocks : List Block) → DidJobs k files budget jobs a b blocks → Broke k files budget jobs a b
+broke_all k files budget jobs a b blocks did = λ number c who.
+    let d = did number c who in
+    record { past = dealt_from k number 0 0 jobs; later = []; parts = append-nil (dealt_from k number 0 0 jobs); own = d.0; between = b; did = d.1; stopped = inl refl }
+
+pub broke_none : (k : Shape) (files : List (ℕ × List ℕ)) (budget : ℕ) (jobs : List Job) (a : Account) (c : Caller) (number : ℕ) → OwnBroken k files budget c a a (dealt_from k number 0 0 jobs)
+broke_none k files budget jobs a c number = record { past = []; later = dealt_from k number 0 0 jobs; parts = refl; own = []; between = a; did = own_nothing k files budget c a; stopped = inl refl }
+
+-- what was answered by then
+pub broke_answers : (k : Shape) (files : List (ℕ × List ℕ)) (budget : ℕ) (c : Caller) (a b : Account) (jobs : List Dealt) → OwnBroken k files budget c a b jobs → (answers : List Answer) × AreAnswered k c a b answers
+broke_answers k files budget c a b jobs broke = ⊎_elim
+    (λ (same : b ≡ broke.between). (flat_map told_by broke.own, subst (λ (z : Account). AreAnswered k c a z (flat_map told_by broke.own)) (sym same) broke.did.answered))
+    (λ (in_job : StoppedIn k files budget c broke.between b broke.later).
+    let more = in_job.4 in
+    (flat_map told_by broke.own ++ more.answers, answered_both k c a broke.between b (flat_map told_by broke.own) more.answers broke.did.answered more.answered))
+    broke.stopped
+
 -- the counts as they were computed
 pub so_far_at : (k : Shape) (files : List (ℕ × List ℕ)) (budget : ℕ) (jobs : List Job) (first a : Account) (l s l' s' : ℕ) (rest : List Job) (blocks blocks' : List Block)
     → l' ≡ l → s' ≡ s → blocks' ≡ blocks → SoFar k files budget jobs first a l s rest blocks → SoFar k files budget jobs first a l' s' rest blocks'
@@ -105,7 +132,6 @@ pub record Walked (b : Place) (files : List (ℕ × List ℕ)) (budget : ℕ) (j
   pub can : CanWork b c
   pub who : c.account.who ≡ first.who
   pub few : loads + searches ≤ i
-  pub broke : Broke b.shape first c.account
   pub so_far : SoFar b.shape files budget jobs first c.account loads searches (drop i jobs) blocks
 
 pub walked_none : (b : Place) (files : List (ℕ × List ℕ)) (budget : ℕ) (jobs : List Job) (c : Seated) (blocks : List Block) → CanWork b c → blocks ≡ []
@@ -114,7 +140,6 @@ walked_none b files budget jobs c blocks can none = record {
   can = can;
   who = refl;
   few = omega arith;
-  broke = broke_none b.shape c.account;
   so_far = so_far_none b.shape files budget jobs c.account blocks none;
 }
 
@@ -127,7 +152,6 @@ walked_own b files budget jobs first c d l s l' s' i job blocks blocks' block k 
   can = can;
   who = who ∙ w.who;
   few = omega (arith, w.few, el, es, counts_few job.order);
-  broke = broke_more b.shape first c.account d.account w.who w.broke (broke_done b.shape files budget c.account d.account job block done);
   so_far = so_far_at b.shape files budget jobs first d.account (l + loads_in job.order) (s + searches_in job.order) l' s' (drop (i + 1) jobs) (blocks ++ block ∷ []) blocks' el es eb
       (so_far_own b.shape files budget jobs first c.account d.account l s job (drop i jobs) (drop (i + 1) jobs) blocks block (drop_here jobs i job below at) w.who
       (subst (λ (z : Shape). (x : Caller) → who_of x ≡ c.account.who → true ≡ is_same (caller_of z l s job.order) x) shape own) done w.so_far);
@@ -141,11 +165,30 @@ walked_other b files budget jobs first c l s l' s' i job blocks k shape below at
   can = w.can;
   who = w.who;
   few = omega (arith, w.few, el, es, counts_few job.order);
-  broke = w.broke;
   so_far = so_far_at b.shape files budget jobs first c.account (l + loads_in job.order) (s + searches_in job.order) l' s' (drop (i + 1) jobs) blocks blocks el es refl
       (so_far_other b.shape files budget jobs first c.account l s job (drop i jobs) (drop (i + 1) jobs) blocks (drop_here jobs i job below at) w.who
       (subst (λ (z : Shape). (x : Caller) → who_of x ≡ c.account.who → false ≡ is_same (caller_of z l s job.order) x) shape other) w.so_far);
 }
+
+-- memory ran out in a job of its own, or when it was done
+pub walked_in : (b : Place) (files : List (ℕ × List ℕ)) (budget : ℕ) (jobs all : List Job) (first : Account) (c d : Seated) (l s i : ℕ) (job : Job) (blocks : List Block) (k : Shape)
+    → k ≡ b.shape → i < length jobs → job ≡ get_or jobs i job → ((x : Caller) → who_of x ≡ c.account.who → true ≡ is_same (caller_of k l s job.order) x)
+    → JobBroke b.shape files budget c.account d.account job → jobs ≡ all
+    → Walked b files budget jobs first c l s i blocks → Broke b.shape files budget all first d.account
+walked_in b files budget jobs all first c d l s i job blocks k shape below at own broke is w =
+    subst (λ (x : List Job). Broke b.shape files budget x first d.account) is
+    (broke_next b.shape files budget jobs first c.account d.account l s job (drop i jobs) (drop (i + 1) jobs) blocks (drop_here jobs i job below at) w.who
+    (subst (λ (z : Shape). (x : Caller) → who_of x ≡ c.account.who → true ≡ is_same (caller_of z l s job.order) x) shape own) broke w.so_far)
+
+pub walked_after : (b : Place) (files : List (ℕ × List ℕ)) (budget : ℕ) (jobs all : List Job) (first : Account) (c d : Seated) (l s i : ℕ) (job : Job) (blocks : List Block) (block : Block) (k : Shape)
+    → k ≡ b.shape → i < length jobs → job ≡ get_or jobs i job → ((x : Caller) → who_of x ≡ c.account.who → true ≡ is_same (caller_of k l s job.order) x)
+    → ((x : Caller) → who_of x ≡ c.account.who → IsJobDone b.shape files budget x c.account d.account job block) → jobs ≡ all
+    → Walked b files budget jobs first c l s i blocks → Broke b.shape files budget all first d.account
+walked_after b files budget jobs all first c d l s i job blocks block k shape below at own done is w =
+    subst (λ (x : List Job). Broke b.shape files budget x first d.account) is
+    (broke_here b.shape files budget jobs first d.account (l + loads_in job.order) (s + searches_in job.order) (drop (i + 1) jobs) (blocks ++ block ∷ [])
+    (so_far_own b.shape files budget jobs first c.account d.account l s job (drop i jobs) (drop (i + 1) jobs) blocks block (drop_here jobs i job below at) w.who
+    (subst (λ (z : Shape). (x : Caller) → who_of x ≡ c.account.who → true ≡ is_same (caller_of z l s job.order) x) shape own) done w.so_far))
 
 pub drop_past : (l : List Job) (i : ℕ) → length l ≤ i → drop i l ≡ []
 drop_past [] zero h = refl

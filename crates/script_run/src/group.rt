@@ -6,6 +6,7 @@ ghost use Rattle.board_jobs.specs.Ends.{HaveGoneOn};
 ghost use Rattle.board_jobs.specs.Groups.{GroupIsDone};
 ghost use Rattle.board_jobs.specs.Jobs.{IsThere};
 ghost use Rattle.script_run.specs.Working.{AreCallers};
+ghost use Rattle.script_run.specs.Walking.{GroupIsBroken};
 ghost use Rattle.script_run.specs.Workers.{accounts_of, callers_of};
 ghost use Rattle.script_run.specs.Passing.{GatesPassed, GatesPassedFront};
 
@@ -51,7 +52,8 @@ fn are_whole(outcomes: &[Outcome]) -> bool
 
 /// Does the jobs of the group, each worker its own beside the others, and answers their blocks in the order of the jobs. The files
 /// have the bytes of each job's file by its line; a search without a budget of its own has the given one. When all jobs are done
-/// the workers have met. An `Err` is want of memory: what was done before stays.
+/// the workers have met. An `Err` is want of memory: what was done before stays, each worker's first jobs and what it had begun of the
+/// next.
 pub fn run_group<R: Threads + Wait + Sync, G: Gate + Send>(
     rt: &R,
     alloc: Global,
@@ -68,6 +70,7 @@ pub fn run_group<R: Threads + Wait + Sync, G: Gate + Send>(
         × GroupIsDone board.now.shape files.now budget number group.now (accounts_of workers.old) (accounts_of workers.new) front done
         × (blocks.items ≡ map done_block done)) }
     ensures broken { IfErr result (λ _. HaveGoneOn board.now.shape (accounts_of workers.old) (accounts_of workers.new)) }
+    ensures begun { IfErr result (λ _. GroupIsBroken board.now.shape files.now budget group.now (accounts_of workers.old) (accounts_of workers.new)) }
 
     // Each worker's gate was told where it stood before and after each of its jobs, and nothing else.
     ensures gates { IfOk result (λ _. GatesPassed G.passed board.now.shape group.now.jobs workers.old workers.new) }

@@ -5,7 +5,7 @@ ghost use Rattle.report_rules.specs.Dealing.{Caller as ScriptCaller};
 ghost use Rattle.board_jobs.specs.Answering.{who_of};
 ghost use Rattle.board_jobs.specs.Jobs.{IsThere, IsJobDone};
 ghost use Rattle.board_jobs.specs.Calls.{IsOrderOf};
-ghost use Rattle.script_run.specs.Walking.{CanWork, IsWorker, DidJobs, Broke, DidOwn, DidAll};
+ghost use Rattle.script_run.specs.Walking.{CanWork, IsWorker, DidJobs, JobBroke, Broke, DidOwn, DidAll};
 ghost use Rattle.script_run.specs.Passing.{before_job, around_job, HasPassed, PassedOwn, PassedFront, Passed, AllPassed};
 
 use crate::dealing::{Count, counted, is_own};
@@ -45,7 +45,7 @@ fn do_own<R: Wait, G: Gate>(
     ensures who { worker.new.caller.account.who ≡ worker.old.caller.account.who }
     ensures done { IfOk result (λ block. (c : ScriptCaller) → who_of c ≡ worker.old.caller.account.who
         → IsJobDone board.now.shape files.now budget c worker.old.caller.account worker.new.caller.account job.now block) }
-    ensures broken { IfErr result (λ _. Broke board.now.shape worker.old.caller.account worker.new.caller.account) }
+    ensures broken { IfErr result (λ _. JobBroke board.now.shape files.now budget worker.old.caller.account worker.new.caller.account job.now) }
     ensures passed { IfOk result (λ _. (c : ScriptCaller) → who_of c ≡ worker.old.caller.account.who
         → HasPassed (G.passed worker.old.gate) (around_job c job.now.line) (G.passed worker.new.gate)) }
     ensures stopped { IfErr result (λ _. (c : ScriptCaller) → who_of c ≡ worker.old.caller.account.who
@@ -94,7 +94,7 @@ fn do_all<R: Wait, G: Gate>(
     ensures can { CanWork board.now worker.new.caller }
     ensures who { worker.new.caller.account.who ≡ worker.old.caller.account.who }
     ensures done { OnOk result (DidJobs board.now.shape files.now budget group.now.jobs worker.old.caller.account worker.new.caller.account blocks.new.items) }
-    ensures broken { OnErr result (Broke board.now.shape worker.old.caller.account worker.new.caller.account) }
+    ensures broken { OnErr result (Broke board.now.shape files.now budget group.now.jobs worker.old.caller.account worker.new.caller.account) }
     ensures passed { OnOk result (PassedOwn board.now.shape group.now.jobs worker.old.caller.account.who (G.passed worker.old.gate) (G.passed worker.new.gate)) }
     ensures stopped { OnErr result (PassedFront board.now.shape group.now.jobs worker.old.caller.account.who (G.passed worker.old.gate) (G.passed worker.new.gate)) }
 {

@@ -1,16 +1,17 @@
 use Rattle.std.proofs.Common.{Err, ap, ◌∙◌}
-use Rattle.board_jobs.proofs.Searching.{told-over, on-hits, on-over, on-none}
+use Rattle.board_jobs.proofs.Chained.{if_err}
+use Rattle.board_jobs.proofs.Searching.{broke-hits, broke-none, told-over, on-hits, on-over, on-none}
 use Rattle.board_jobs.proofs.jobs.search_for.Goals as goal
 
 pub returns-in_err-copy-in-Ok-clause-goes_on : goal.returns-in_err-copy-in-Ok-clause-goes_on
 returns-in_err-copy-in-Ok-clause-goes_on c =
     let told = c.in-Ok.ensures.found in
-    on-hits c.args.board.now c.args.caller.now c.search.new.caller _ _ _ _ _ c.requires.work c.in-Ok.ensures.of told.0 told.1 c.in-Ok.ensures.records
+    on-hits c.args.board.now c.args.caller.now c.search.new.caller _ _ _ _ _ _ c.requires.work c.in-Ok.ensures.of told.0 told.1 c.in-Ok.ensures.records c.in-Ok.ensures.rows
 
 pub returns-in_ok-copy-in-Ok-clause-goes_on : goal.returns-in_ok-copy-in-Ok-clause-goes_on
 returns-in_ok-copy-in-Ok-clause-goes_on c =
     let told = c.in-Ok.ensures.found in
-    on-hits c.args.board.now c.args.caller.now c.search.new.caller _ _ _ _ _ c.requires.work c.in-Ok.ensures.of told.0 told.1 c.in-Ok.ensures.records
+    on-hits c.args.board.now c.args.caller.now c.search.new.caller _ _ _ _ _ _ c.requires.work c.in-Ok.ensures.of told.0 told.1 c.in-Ok.ensures.records c.in-Ok.ensures.rows
 
 pub returns-in-Err-OverBudget-clause-told : goal.returns-in-Err-OverBudget-clause-told
 returns-in-Err-OverBudget-clause-told c =
@@ -29,3 +30,15 @@ returns-in-Err-OutOfMemory-clause-goes_on c =
     let arm = c.in-Err-OutOfMemory in
     let told = c.search.ensures.memory (arm.is ∙ ap (λ e. Err e) arm.field-0-is) in
     on-none c.args.board.now c.args.caller.now c.search.new.caller told.0 c.requires.work c.search.ensures.of told.1
+
+pub returns-in_err-copy-in-Ok-clause-broken : goal.returns-in_err-copy-in-Ok-clause-broken
+returns-in_err-copy-in-Ok-clause-broken c =
+    let told = c.in-Ok.ensures.found in
+    if_err c.from_residual.result
+    (broke-hits c.args.board.now c.args.caller.now c.search.new.caller c.args.query.now c.args.budget _ _ _ _ told.0 told.1 c.in-Ok.ensures.records c.in-Ok.ensures.rows)
+
+pub returns-in-Err-OutOfMemory-clause-broken : goal.returns-in-Err-OutOfMemory-clause-broken
+returns-in-Err-OutOfMemory-clause-broken c =
+    let arm = c.in-Err-OutOfMemory in
+    let told = c.search.ensures.memory (arm.is ∙ ap (λ e. Err e) arm.field-0-is) in
+    broke-none c.args.board.now c.args.caller.now c.search.new.caller c.args.query.now c.args.budget told.0 told.1

@@ -1,8 +1,8 @@
 use Rattle.std.proofs.Common.{◌≡◌, ◌++◌, length, take, true, ap, sym, ◌∙◌, subst, arith, rules, append_assoc, length-append}
 use Rattle.std.proofs.lemmas.List.{append-nil, nil_from_length, take-append-drop}
 use Rattle.board_jobs.specs.Calls.{AreLoaded}
-use Rattle.board_jobs.proofs.Chained.{goes_on-both, loader_stays}
-use Rattle.board_jobs.proofs.Loading.{loaded-all, loaded-still}
+use Rattle.board_jobs.proofs.Chained.{goes_on-both, if_err, loader_stays}
+use Rattle.board_jobs.proofs.Loading.{begun-front, begun-loaded, begun-none, loaded-all, loaded-still}
 use Rattle.board_jobs.proofs.load.load_file.Goals as goal
 
 pub returns-in_err-publish_read-clause-goes_on : goal.returns-in_err-publish_read-clause-goes_on
@@ -57,3 +57,42 @@ returns-clause-loaded g c =
     let over : c.publish_read-2.new.reader.finished ≡ true = c.in_ok-publish_read-2.ensures.finished ∙ ap (λ r. r.finished) c.finish.ensures.finished in
     loaded-all k start c.publish_read-2.new.caller.account bytes c.publish_read-2.new.reader c.publish_read-2.new.lines.items
     (c.in_ok-publish_read-2.ensures.all over bytes) last
+
+pub returns-in_err-reader-clause-broken : goal.returns-in_err-reader-clause-broken
+returns-in_err-reader-clause-broken g c = if_err c.from_residual.result (begun-none c.args.board.now.shape c.args.caller.now.account c.args.bytes.now)
+
+pub returns-in_err-feed-clause-broken : goal.returns-in_err-feed-clause-broken
+returns-in_err-feed-clause-broken g c =
+    let fed = c.loop-rest.invariant.fed in
+    let k = c.args.board.now.shape in
+    let start = c.args.caller.now.account in
+    if_err c.from_residual-in_err-feed.result
+    (begun-front k start c.loop-rest.caller.account c.args.bytes.now fed.stream c.loop-rest.rest.now fed.parts
+    (begun-loaded k start c.loop-rest.caller.account fed.stream c.loop-rest.reader c.loop-rest.lines.items fed.loaded))
+
+pub returns-in_err-publish_read-clause-broken : goal.returns-in_err-publish_read-clause-broken
+returns-in_err-publish_read-clause-broken g c =
+    let so_far = c.loop-rest.invariant in
+    let k = c.args.board.now.shape in
+    let start = c.args.caller.now.account in
+    let piece = c.split_at.result.0.now in
+    let after = c.split_at.result.1.now in
+    let parts : c.loop-rest.rest.now ≡ piece ++ after =
+    sym (ap (λ front. front ++ after) c.split_at.ensures.front ∙ ap (λ back. take c.min.result c.loop-rest.rest.now ++ back) c.split_at.ensures.back ∙ take-append-drop c.min.result c.loop-rest.rest.now) in
+    let fed = loaded-still k start c.loop-rest.caller.account so_far.fed.stream (so_far.fed.stream ++ piece) c.loop-rest.reader c.feed.new.self c.loop-rest.lines.items
+    (c.in_ok-feed.ensures.read so_far.fed.stream) so_far.fed.loaded in
+    if_err c.from_residual-in_err-publish_read.result
+    (begun-front k start c.publish_read.new.caller.account c.args.bytes.now (so_far.fed.stream ++ piece) after
+    (so_far.fed.parts ∙ ap (λ rest. so_far.fed.stream ++ rest) parts ∙ sym (append_assoc so_far.fed.stream piece after))
+    (c.in_err-publish_read.ensures.broken start (so_far.fed.stream ++ piece) fed))
+
+pub returns-in_err-publish_read-2-clause-broken : goal.returns-in_err-publish_read-2-clause-broken
+returns-in_err-publish_read-2-clause-broken g c =
+    let so_far = c.loop-rest.invariant in
+    let k = c.args.board.now.shape in
+    let start = c.args.caller.now.account in
+    let finished = loaded-still k start c.loop-rest.caller.account so_far.fed.stream so_far.fed.stream c.loop-rest.reader c.finish.new.self c.loop-rest.lines.items
+    (c.finish.ensures.read so_far.fed.stream) so_far.fed.loaded in
+    if_err c.from_residual-in_err-publish_read-2.result
+    (begun-front k start c.publish_read-2.new.caller.account c.args.bytes.now so_far.fed.stream c.loop-rest.rest.now so_far.fed.parts
+    (c.in_err-publish_read-2.ensures.broken start so_far.fed.stream finished))

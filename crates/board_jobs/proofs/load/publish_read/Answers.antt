@@ -2,9 +2,9 @@ use Rattle.std.proofs.Common.{◌≡◌, refl, sym, subst, ◌∙◌}
 use Rattle.htss_defs.specs.declared.record.NamedMol.{NamedMol}
 use Rattle.report_rules.specs.Answers.{taken, not_accepted}
 use Rattle.board.specs.Seated.{Seated}
-use Rattle.board_jobs.specs.Calls.{AreLoaded, GoesOn}
-use Rattle.board_jobs.proofs.Chained.{goes_on-both, loader_stays}
-use Rattle.board_jobs.proofs.Loading.{loaded-more, refused-answers}
+use Rattle.board_jobs.specs.Calls.{AreLoaded, GoesOn, HaveBegun}
+use Rattle.board_jobs.proofs.Chained.{goes_on-both, loader_stays, on_err}
+use Rattle.board_jobs.proofs.Loading.{begun-loaded, begun-more, loaded-more, refused-answers}
 use Rattle.board_jobs.proofs.load.publish_read.Goals as goal
 use Rattle.board_jobs.proofs.load.publish_read.Goals.{in-Accepted, in-Refused}
 
@@ -53,3 +53,28 @@ loop-place-preserved g c =
             (refused-answers c.args.board.now.shape c.loop-place.caller.account w.in-Refused.line w.in-Refused.code) (so_far.loaded start stream before));
       }
     ]
+
+pub returns-in_err-place-clause-broken : goal.returns-in_err-place-clause-broken
+returns-in_err-place-clause-broken g c =
+    on_err c.from_residual.result
+    (λ start stream before. begun-loaded c.args.board.now.shape start c.loop-place.caller.account stream c.loop-place.reader c.loop-place.lines.items (c.loop-place.invariant.loaded start stream before))
+
+pub returns-in_err-push-clause-broken : goal.returns-in_err-push-clause-broken
+returns-in_err-push-clause-broken g c =
+    let so_far = c.loop-place.invariant in
+    on_err c.from_residual-in_err-push.result
+    (λ start stream before. elim c.match-branch-2.branch [
+      | in-Accepted w ↦
+          let reads = rw w.in-Accepted.is at c.in_ok-place.ensures.read in
+          let one : NamedMol = record { name = w.in-Accepted.name; mol = w.in-Accepted.mol } in
+          let step = w.publish_one-line.ensures.taken in
+          subst (λ (x : Seated). HaveBegun c.args.board.now.shape start x.account stream) (sym w.caller-is)
+          (begun-more c.args.board.now.shape start c.loop-place.caller.account w.publish_one-line.new.caller.account stream c.loop-place.reader c.next_record.new.self
+          c.loop-place.lines.items (taken one step.fate) reads step.answers (so_far.loaded start stream before))
+      | in-Refused w ↦
+          let reads = rw w.in-Refused.is at c.in_ok-place.ensures.read in
+          let one = not_accepted w.in-Refused.line w.in-Refused.code in
+          subst (λ (x : Seated). HaveBegun c.args.board.now.shape start x.account stream) (sym w.caller-is)
+          (begun-more c.args.board.now.shape start c.loop-place.caller.account c.loop-place.caller.account stream c.loop-place.reader c.next_record.new.self
+          c.loop-place.lines.items one reads (refused-answers c.args.board.now.shape c.loop-place.caller.account w.in-Refused.line w.in-Refused.code) (so_far.loaded start stream before))
+    ])

@@ -1,7 +1,8 @@
 use Rattle.std.proofs.Common.{◌≡◌, length, refl, arith}
-use Rattle.script_run.specs.Workers.{callers_of}
+use Rattle.board_jobs.proofs.Chained.{if_err}
+use Rattle.script_run.specs.Workers.{accounts_of, callers_of}
 use Rattle.script_run.proofs.Callers.{all_of, all_workers, met_callers}
-use Rattle.script_run.proofs.Groups.{all_merged, all_queues, all_whole, gone_on, group_done, lent_queues, worked_callers}
+use Rattle.script_run.proofs.Groups.{all_merged, all_queues, all_whole, gone_on, group_broken, group_done, group_unbegun, lent_queues, worked_callers}
 use Rattle.script_run.proofs.Gates.{gates_before, gates_front, gates_whole}
 use Rattle.script_run.proofs.Walks.{on_err}
 use Rattle.script_run.proofs.group.run_group.Goals as goal
@@ -16,7 +17,21 @@ returns-then-not-are_whole-clause-callers g c =
 
 pub returns-then-not-are_whole-clause-broken : goal.returns-then-not-are_whole-clause-broken
 returns-then-not-are_whole-clause-broken g c =
-    gone_on c.args.board.now c.args.files.now c.args.budget c.args.group.now.jobs c.args.workers.now c.work_all.new.workers c.work_all.new.outcomes c.requires.callers c.work_all.ensures.did
+    gone_on c.args.board.now.shape c.args.files.now c.args.budget c.args.group.now (accounts_of c.args.workers.now) (accounts_of c.work_all.new.workers)
+    (group_broken c.args.board.now c.args.files.now c.args.budget c.args.group.now c.args.workers.now c.work_all.new.workers c.work_all.new.outcomes c.requires.callers c.work_all.ensures.did)
+
+pub returns-then-not-are_whole-clause-begun : goal.returns-then-not-are_whole-clause-begun
+returns-then-not-are_whole-clause-begun g c =
+    group_broken c.args.board.now c.args.files.now c.args.budget c.args.group.now c.args.workers.now c.work_all.new.workers c.work_all.new.outcomes c.requires.callers c.work_all.ensures.did
+
+pub returns-in_err-outcomes-clause-begun : goal.returns-in_err-outcomes-clause-begun
+returns-in_err-outcomes-clause-begun g c =
+    if_err c.from_residual.result (group_unbegun c.args.board.now.shape c.args.files.now c.args.budget c.args.group.now c.args.workers.now)
+
+pub returns-in_err-blocks-clause-begun : goal.returns-in_err-blocks-clause-begun
+returns-in_err-blocks-clause-begun g c =
+    if_err c.from_residual-in_err-blocks.result
+    (group_broken c.args.board.now c.args.files.now c.args.budget c.args.group.now c.args.workers.now c.work_all.new.workers c.work_all.new.outcomes c.requires.callers c.work_all.ensures.did)
 
 pub returns-in_err-blocks-clause-callers : goal.returns-in_err-blocks-clause-callers
 returns-in_err-blocks-clause-callers g c =
@@ -26,7 +41,8 @@ returns-in_err-blocks-clause-callers g c =
 pub returns-in_err-blocks-clause-broken : goal.returns-in_err-blocks-clause-broken
 returns-in_err-blocks-clause-broken g c =
     on_err c.from_residual-in_err-blocks.result
-    (gone_on c.args.board.now c.args.files.now c.args.budget c.args.group.now.jobs c.args.workers.now c.work_all.new.workers c.work_all.new.outcomes c.requires.callers c.work_all.ensures.did)
+    (gone_on c.args.board.now.shape c.args.files.now c.args.budget c.args.group.now (accounts_of c.args.workers.now) (accounts_of c.work_all.new.workers)
+    (group_broken c.args.board.now c.args.files.now c.args.budget c.args.group.now c.args.workers.now c.work_all.new.workers c.work_all.new.outcomes c.requires.callers c.work_all.ensures.did))
 
 pub merge-requires-clause-queues : goal.merge-requires-clause-queues
 merge-requires-clause-queues g c =

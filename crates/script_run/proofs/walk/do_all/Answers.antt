@@ -1,5 +1,5 @@
 use Rattle.std.proofs.Common.{◌+◌, ◌∙◌, true, false, drop, subst, sym, ap}
-use Rattle.script_run.proofs.Walks.{Walked, on_err, broke_done, broke_more, walked_all, walked_none, walked_other, walked_own, order_of}
+use Rattle.script_run.proofs.Walks.{Walked, on_err, walked_after, walked_all, walked_in, walked_none, walked_other, walked_own, order_of}
 use Rattle.script_run.proofs.Passing.{OnTheWay, own_asked, way_after, way_all, way_none, way_other, way_own, way_stopped}
 use Rattle.script_run.proofs.walk.do_all.Goals as goal
 use Rattle.script_run.proofs.walk.do_all.Goals.{then-is_own+in_ok-block+in_ok-push_back, else-is_own}
@@ -73,15 +73,16 @@ returns-clause-done g c =
 pub returns-in_err-block-clause-broken : goal.returns-in_err-block-clause-broken
 returns-in_err-block-clause-broken g c =
     on_err c.from_residual.result
-    (broke_more c.args.board.now.shape c.args.worker.now.caller.account c.loop-job.worker.caller.account c.do_own.new.worker.caller.account
-    c.loop-job.invariant.walked.who c.loop-job.invariant.walked.broke c.in_err-block.ensures.broken)
+    (walked_in c.args.board.now c.args.files.now c.args.budget c.as_slice-jobs.result.now c.args.group.now.jobs c.args.worker.now.caller.account c.loop-job.worker.caller c.do_own.new.worker.caller
+    c.loop-job.count.loads c.loop-job.count.searches c.loop-job.job-index c.job-item.result c.loop-job.blocks.items c.shape-shape.result
+    c.shape-shape.ensures.value c.loop-job-test.true c.job-item.is c.if-is_own.ensures c.in_err-block.ensures.broken c.as_slice-jobs.ensures c.loop-job.invariant.walked)
 
 pub returns-in_err-push_back-clause-broken : goal.returns-in_err-push_back-clause-broken
 returns-in_err-push_back-clause-broken g c =
     on_err c.from_residual-in_err-push_back.result
-    (broke_more c.args.board.now.shape c.args.worker.now.caller.account c.loop-job.worker.caller.account c.do_own.new.worker.caller.account
-    c.loop-job.invariant.walked.who c.loop-job.invariant.walked.broke
-    (broke_done c.args.board.now.shape c.args.files.now c.args.budget c.loop-job.worker.caller.account c.do_own.new.worker.caller.account c.job-item.result c.in_ok-block.block c.in_ok-block.ensures.done))
+    (walked_after c.args.board.now c.args.files.now c.args.budget c.as_slice-jobs.result.now c.args.group.now.jobs c.args.worker.now.caller.account c.loop-job.worker.caller c.do_own.new.worker.caller
+    c.loop-job.count.loads c.loop-job.count.searches c.loop-job.job-index c.job-item.result c.loop-job.blocks.items c.in_ok-block.block c.shape-shape.result
+    c.shape-shape.ensures.value c.loop-job-test.true c.job-item.is c.if-is_own.ensures c.in_ok-block.ensures.done c.as_slice-jobs.ensures c.loop-job.invariant.walked)
 
 pub returns-clause-passed : goal.returns-clause-passed
 returns-clause-passed g c =

@@ -11,7 +11,7 @@ returns-clause-did g c =
     record {
       can = c.do_all-done.ensures.can;
       who = c.do_all-done.ensures.who;
-      did = by_result (DidJobs k c.args.files.now c.args.budget c.args.group.now.jobs before after c.do_all-done.new.blocks.items) (Broke k before after)
+      did = by_result (DidJobs k c.args.files.now c.args.budget c.args.group.now.jobs before after c.do_all-done.new.blocks.items) (Broke k c.args.files.now c.args.budget c.args.group.now.jobs before after)
           c.do_all-done.result c.is_ok.result c.is_ok.ensures.value c.do_all-done.ensures.done c.do_all-done.ensures.broken;
     }
 
