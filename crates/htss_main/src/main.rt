@@ -3,25 +3,19 @@
 //! records, and runs scripts that load, withdraw and search records.
 #![tactic(auto)]
 
+mod exit;
 #[cfg(test)]
 mod run_tests;
 mod top;
 
-use command_ends::{Stop, refuse};
 use outside::{DirShelf, OutSink};
-use std::io::ErrorKind;
 use std::process::ExitCode;
 use std::{env, io};
 
 fn main(rt: HostRuntime) -> ExitCode {
     let mut shelf = DirShelf::new(rt.alloc(), &rt);
     let mut out = OutSink::new(&rt);
-    let status = match words_of(&rt) {
-        Ok(words) => top::htss(&rt, rt.alloc(), &words, &mut shelf, &mut out).status,
-        Err(error) if error.kind() == ErrorKind::OutOfMemory => refuse(&mut out, Stop::Memory),
-        Err(_) => refuse(&mut out, Stop::Usage),
-    };
-    ExitCode::from(status)
+    exit::exit(&rt, rt.alloc(), words_of(&rt), &mut shelf, &mut out)
 }
 
 // The words after the program's name.

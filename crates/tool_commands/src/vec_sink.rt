@@ -1,5 +1,5 @@
 // A sink in memory that grows as it is written to.
-ghost use Rattle.std.specs.Prelude.{◌≡◌, [], IfOk};
+ghost use Rattle.std.specs.Prelude.{◌≡◌, ◌≤◌, [], IfOk, vec_capacity};
 
 use htss_defs::OutOfMemory;
 use outside::{Failed, Sink};
@@ -15,7 +15,8 @@ pub struct VecSink {
 impl VecSink {
     /// A sink that takes so many bytes before it asks for memory again.
     pub fn with_room(alloc: Global, room: usize) -> Result<VecSink, OutOfMemory>
-        ensures { IfOk result (λ sink. sink.bytes.items ≡ []) }
+        ensures empty { IfOk result (λ sink. sink.bytes.items ≡ []) }
+        ensures room { IfOk result (λ sink. room ≤ vec_capacity sink.bytes) }
     {
         Ok(VecSink {
             bytes: Vec::with_capacity(alloc, room)?,
