@@ -1,5 +1,5 @@
 -- The records of a file, answered one after the other.
-use Rattle.std.proofs.Common.{◌≡◌, ℕ, ◌+◌, List, [], ◌∷◌, ◌++◌, length, map, sym, ap, subst, ◌∙◌, refl, arith, rules}
+use Rattle.std.proofs.Common.{◌≡◌, Bool, true, ℕ, ◌+◌, List, [], ◌∷◌, ◌++◌, length, map, sym, ap, subst, ◌∙◌, refl, arith, rules}
 use Rattle.std.proofs.lemmas.List.{map-append, length-map, append-nil}
 use Rattle.htss_defs.specs.declared.shape.Shape.{Shape}
 use Rattle.mol_section.specs.SectionRecord.{Outcome}
@@ -96,26 +96,27 @@ loaded-still k a b stream after reader other lines reads loaded = record {
 
 -- ---- memory ran out
 
-pub begun-loaded : (k : Shape) (a b : Account) (stream : List ℕ) (reader : ReaderState) (lines : List LoadLine) → AreLoaded k a b stream reader lines → HaveBegun k a b stream
-begun-loaded k a b stream reader lines loaded = record { records = loaded.records; reader = reader; read = loaded.read; answers = loaded.answers }
+pub begun-loaded : (k : Shape) (a b : Account) (stream : List ℕ) (reader : ReaderState) (lines : List LoadLine) (over : Bool) → reader.finished ≡ over → AreLoaded k a b stream reader lines → HaveBegun k a b stream over
+begun-loaded k a b stream reader lines over told loaded = record { records = loaded.records; reader = reader; told = told; read = loaded.read; answers = loaded.answers }
 
 -- after a record more, of which there is no line
-pub begun-more : (k : Shape) (start a b : Account) (stream : List ℕ) (reader after : ReaderState) (lines : List LoadLine) (one : RecordAnswer)
+pub begun-more : (k : Shape) (start a b : Account) (stream : List ℕ) (reader after : ReaderState) (lines : List LoadLine) (one : RecordAnswer) (over : Bool) → after.finished ≡ over
     → ((stream : List ℕ) (outcomes : List Outcome) → HasRead stream outcomes reader → HasRead stream (outcomes ++ outcome_of one ∷ []) after)
     → Answers k a b (to_record one)
     → AreLoaded k start a stream reader lines
-    → HaveBegun k start b stream
-begun-more k start a b stream reader after lines one reads answers before = record {
+    → HaveBegun k start b stream over
+begun-more k start a b stream reader after lines one over told reads answers before = record {
   records = before.records ++ one ∷ [];
   reader = after;
+  told = told;
   read = subst (λ outcomes. HasRead stream outcomes after) (sym (map-append outcome_of before.records (one ∷ []))) (reads stream (map outcome_of before.records) before.read);
   answers = λ c who. subst (λ all. AreAnswered k c start b all) (sym (map-append to_record before.records (one ∷ [])))
       (answered_both k c start a b (map to_record before.records) (to_record one ∷ []) (before.answers c who) (answered_one k c a b (to_record one) (answers c (who ∙ sym before.who))));
 }
 
 -- of a front of the file
-pub begun-front : (k : Shape) (a b : Account) (bytes stream rest : List ℕ) → bytes ≡ stream ++ rest → HaveBegun k a b stream → IsBegun k a b bytes
-begun-front k a b bytes stream rest parts begun = record { records = begun.records; first = (stream, rest, begun.reader, parts, begun.read); answers = begun.answers }
+pub begun-front : (k : Shape) (a b : Account) (bytes stream rest : List ℕ) (over : Bool) → bytes ≡ stream ++ rest → (over ≡ true → rest ≡ []) → HaveBegun k a b stream over → IsBegun k a b bytes
+begun-front k a b bytes stream rest over parts all begun = record { records = begun.records; first = (stream, rest, begun.reader, parts, begun.read, λ done. all (sym begun.told ∙ done)); answers = begun.answers }
 
 pub begun-none : (k : Shape) (a : Account) (bytes : List ℕ) → IsBegun k a a bytes
-begun-none k a bytes = record { records = []; first = ([], bytes, empty_state, refl, HasRead-empty empty_state refl refl refl refl); answers = λ c who. refl }
+begun-none k a bytes = record { records = []; first = ([], bytes, empty_state, refl, HasRead-empty empty_state refl refl refl refl, λ done. absurd cc); answers = λ c who. refl }

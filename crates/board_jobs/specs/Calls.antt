@@ -1,5 +1,5 @@
 -- What the calls of a job need of their caller, what they leave of it, and what they answer.
-use Rattle.std.specs.Prelude.{◌≡◌, ◌⊎◌, ℕ, ◌≤◌, List, [], length, map}
+use Rattle.std.specs.Prelude.{◌≡◌, ◌⊎◌, ℕ, ◌≤◌, List, [], length, map, Bool}
 use Rattle.htss_defs.specs.declared.record.NamedMol.{NamedMol}
 use Rattle.htss_defs.specs.declared.shape.Shape.{Shape}
 use Rattle.htss_defs.specs.QueryGraph.{QueryGraph}
@@ -64,10 +64,11 @@ pub record AreLoaded (k : Shape) (a b : Account) (stream : List ℕ) (reader : R
   pub who : b.who ≡ a.who
   pub answers : (c : Caller) → who_of c ≡ a.who → AreAnswered k c a b (map to_record records)
 
--- memory ran out: the first records of the stream are answered, as a reader has read them
-pub record HaveBegun (k : Shape) (a b : Account) (stream : List ℕ) : Type 0 where
+-- memory ran out: the first records of the stream are answered, as a reader has read them, which was told that it is over or not
+pub record HaveBegun (k : Shape) (a b : Account) (stream : List ℕ) (over : Bool) : Type 0 where
   pub records : List RecordAnswer
   pub reader : ReaderState
+  pub told : reader.finished ≡ over
   pub read : HasRead stream (map outcome_of records) reader
   pub answers : (c : Caller) → who_of c ≡ a.who → AreAnswered k c a b (map to_record records)
 

@@ -1,5 +1,5 @@
 -- What a job needs, and what it does to its caller's account.
-use Rattle.std.specs.Prelude.{◌≡◌, ◌⊎◌, ℕ, List, [], ◌∷◌, ◌++◌, map, Option, Some, IsSome}
+use Rattle.std.specs.Prelude.{◌≡◌, ◌⊎◌, ℕ, List, [], ◌∷◌, ◌++◌, map, true, Option, Some, IsSome}
 use Rattle.htss_defs.specs.declared.shape.Shape.{Shape}
 use Rattle.script_text.specs.declared.script.Job.{Job}
 use Rattle.script_text.specs.declared.script.Order.{Order}
@@ -42,9 +42,10 @@ pub record IsJobDone (k : Shape) (files : List (ℕ × List ℕ)) (budget : ℕ)
   pub block_is : block ≡ block_of job.line answer
   pub answered : AreAnswered k caller a b (answers_of answer)
 
--- a reader has read these records from a front of the file
+-- a reader has read these records from a front of the file, which is all of it where the reader was told that it is over
 abbrev pub AreFirstRecords : List ℕ → List RecordAnswer → Type 0
 AreFirstRecords bytes records = (stream rest : List ℕ) × (reader : ReaderState) × (bytes ≡ stream ++ rest) × HasRead stream (map outcome_of records) reader
+    × (reader.finished ≡ true → rest ≡ [])
 
 -- it adds no entry, or is the answer for the query of the file
 abbrev pub IsQuietOrFor : List ℕ → ℕ → SearchAnswer → Type 0

@@ -67,7 +67,7 @@ fn publish_read<R: Wait>(
         → AreLoaded board.now.shape start caller.new.account stream reader.new lines.new.items) }
     ensures broken { OnErr result ((start : Account) (stream : List ℕ)
         → AreLoaded board.now.shape start caller.old.account stream reader.old lines.old.items
-        → HaveBegun board.now.shape start caller.new.account stream) }
+        → HaveBegun board.now.shape start caller.new.account stream reader.old.finished) }
     ensures goes_on { GoesOn board.now caller.old caller.new }
     ensures finished { OnOk result (reader.new.finished ≡ reader.old.finished) }
     ensures fed { OnOk result (reader.new.fed ≡ reader.old.fed) }

@@ -16,7 +16,7 @@ use std::process::ExitCode;
 use std::sync::Wait;
 use std::thread::Threads;
 
-/// Does what the words after the program's name say, and answers the status of that: see `htss`. Words that could not be read, as
+/// Does what the words after the program's name say (`htss`), and answers an exit status of which the same holds. Words that could not be read, as
 /// they are not UTF-8, are no command line, unless memory ran out.
 pub fn exit<R: Threads + Wait + Sync, F: Shelf, K: Sink>(
     rt: &R,

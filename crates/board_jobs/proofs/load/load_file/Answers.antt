@@ -1,4 +1,4 @@
-use Rattle.std.proofs.Common.{◌≡◌, ◌++◌, length, take, true, ap, sym, ◌∙◌, subst, arith, rules, append_assoc, length-append}
+use Rattle.std.proofs.Common.{◌≡◌, ◌++◌, length, take, true, false, ap, sym, ◌∙◌, subst, arith, rules, append_assoc, length-append}
 use Rattle.std.proofs.lemmas.List.{append-nil, nil_from_length, take-append-drop}
 use Rattle.board_jobs.specs.Calls.{AreLoaded}
 use Rattle.board_jobs.proofs.Chained.{goes_on-both, if_err, loader_stays}
@@ -67,8 +67,8 @@ returns-in_err-feed-clause-broken g c =
     let k = c.args.board.now.shape in
     let start = c.args.caller.now.account in
     if_err c.from_residual-in_err-feed.result
-    (begun-front k start c.loop-rest.caller.account c.args.bytes.now fed.stream c.loop-rest.rest.now fed.parts
-    (begun-loaded k start c.loop-rest.caller.account fed.stream c.loop-rest.reader c.loop-rest.lines.items fed.loaded))
+    (begun-front k start c.loop-rest.caller.account c.args.bytes.now fed.stream c.loop-rest.rest.now false fed.parts (λ over. absurd cc)
+    (begun-loaded k start c.loop-rest.caller.account fed.stream c.loop-rest.reader c.loop-rest.lines.items false c.loop-rest.invariant.goes_on fed.loaded))
 
 pub returns-in_err-publish_read-clause-broken : goal.returns-in_err-publish_read-clause-broken
 returns-in_err-publish_read-clause-broken g c =
@@ -82,8 +82,9 @@ returns-in_err-publish_read-clause-broken g c =
     let fed = loaded-still k start c.loop-rest.caller.account so_far.fed.stream (so_far.fed.stream ++ piece) c.loop-rest.reader c.feed.new.self c.loop-rest.lines.items
     (c.in_ok-feed.ensures.read so_far.fed.stream) so_far.fed.loaded in
     if_err c.from_residual-in_err-publish_read.result
-    (begun-front k start c.publish_read.new.caller.account c.args.bytes.now (so_far.fed.stream ++ piece) after
+    (begun-front k start c.publish_read.new.caller.account c.args.bytes.now (so_far.fed.stream ++ piece) after c.feed.new.self.finished
     (so_far.fed.parts ∙ ap (λ rest. so_far.fed.stream ++ rest) parts ∙ sym (append_assoc so_far.fed.stream piece after))
+    (λ over. let wrong : false ≡ true = sym (ap (λ r. r.finished) c.in_ok-feed.ensures.ok ∙ so_far.goes_on) ∙ over in absurd cc)
     (c.in_err-publish_read.ensures.broken start (so_far.fed.stream ++ piece) fed))
 
 pub returns-in_err-publish_read-2-clause-broken : goal.returns-in_err-publish_read-2-clause-broken
@@ -94,5 +95,6 @@ returns-in_err-publish_read-2-clause-broken g c =
     let finished = loaded-still k start c.loop-rest.caller.account so_far.fed.stream so_far.fed.stream c.loop-rest.reader c.finish.new.self c.loop-rest.lines.items
     (c.finish.ensures.read so_far.fed.stream) so_far.fed.loaded in
     if_err c.from_residual-in_err-publish_read-2.result
-    (begun-front k start c.publish_read-2.new.caller.account c.args.bytes.now so_far.fed.stream c.loop-rest.rest.now so_far.fed.parts
+    (begun-front k start c.publish_read-2.new.caller.account c.args.bytes.now so_far.fed.stream c.loop-rest.rest.now c.finish.new.self.finished so_far.fed.parts
+    (λ over. nil_from_length c.loop-rest.rest.now (search rules))
     (c.in_err-publish_read-2.ensures.broken start so_far.fed.stream finished))

@@ -57,7 +57,8 @@ loop-place-preserved g c =
 pub returns-in_err-place-clause-broken : goal.returns-in_err-place-clause-broken
 returns-in_err-place-clause-broken g c =
     on_err c.from_residual.result
-    (λ start stream before. begun-loaded c.args.board.now.shape start c.loop-place.caller.account stream c.loop-place.reader c.loop-place.lines.items (c.loop-place.invariant.loaded start stream before))
+    (λ start stream before. begun-loaded c.args.board.now.shape start c.loop-place.caller.account stream c.loop-place.reader c.loop-place.lines.items c.args.reader.now.finished
+    c.loop-place.invariant.finished (c.loop-place.invariant.loaded start stream before))
 
 pub returns-in_err-push-clause-broken : goal.returns-in_err-push-clause-broken
 returns-in_err-push-clause-broken g c =
@@ -68,13 +69,13 @@ returns-in_err-push-clause-broken g c =
           let reads = rw w.in-Accepted.is at c.in_ok-place.ensures.read in
           let one : NamedMol = record { name = w.in-Accepted.name; mol = w.in-Accepted.mol } in
           let step = w.publish_one-line.ensures.taken in
-          subst (λ (x : Seated). HaveBegun c.args.board.now.shape start x.account stream) (sym w.caller-is)
+          subst (λ (x : Seated). HaveBegun c.args.board.now.shape start x.account stream c.args.reader.now.finished) (sym w.caller-is)
           (begun-more c.args.board.now.shape start c.loop-place.caller.account w.publish_one-line.new.caller.account stream c.loop-place.reader c.next_record.new.self
-          c.loop-place.lines.items (taken one step.fate) reads step.answers (so_far.loaded start stream before))
+          c.loop-place.lines.items (taken one step.fate) c.args.reader.now.finished (c.next_record.ensures.kept.1 ∙ so_far.finished) reads step.answers (so_far.loaded start stream before))
       | in-Refused w ↦
           let reads = rw w.in-Refused.is at c.in_ok-place.ensures.read in
           let one = not_accepted w.in-Refused.line w.in-Refused.code in
-          subst (λ (x : Seated). HaveBegun c.args.board.now.shape start x.account stream) (sym w.caller-is)
+          subst (λ (x : Seated). HaveBegun c.args.board.now.shape start x.account stream c.args.reader.now.finished) (sym w.caller-is)
           (begun-more c.args.board.now.shape start c.loop-place.caller.account c.loop-place.caller.account stream c.loop-place.reader c.next_record.new.self
-          c.loop-place.lines.items one reads (refused-answers c.args.board.now.shape c.loop-place.caller.account w.in-Refused.line w.in-Refused.code) (so_far.loaded start stream before))
+          c.loop-place.lines.items one c.args.reader.now.finished (c.next_record.ensures.kept.1 ∙ so_far.finished) reads (refused-answers c.args.board.now.shape c.loop-place.caller.account w.in-Refused.line w.in-Refused.code) (so_far.loaded start stream before))
     ])
