@@ -39,7 +39,7 @@ pub const CARBON_OXYGEN: Asked = Asked {
     bonds: &[(1, 2, 1, 0)],
 };
 
-// The molecule of a sketch, with its ring bonds marked.
+/// The molecule of a sketch, with its ring bonds marked; an error where it is none.
 pub fn molecule_of(alloc: Global, sketch: &Sketch) -> Result<Mol, Fail>
     ensures { IfOk result (λ mol. IsMarked mol) }
 {
@@ -65,6 +65,7 @@ pub fn molecule_of(alloc: Global, sketch: &Sketch) -> Result<Mol, Fail>
     Ok(mol)
 }
 
+/// The query that is asked, with its ring bonds marked; an error where it is none.
 pub fn query_of(alloc: Global, asked: &Asked) -> Result<Query, Fail> {
     let mut atoms = Vec::new(alloc);
     for test in asked.tests {

@@ -1,6 +1,6 @@
 -- Callers that did the jobs of a group have gone on by answers, and heard of a front.
 use Rattle.std.proofs.Common.{◌≡◌, ⊎_elim, ℕ, ◌+◌, ◌<◌, List, [], ◌∷◌, ◌++◌, length, set, refl, sym, ap, subst, ◌∙◌, arith}
-use Rattle.std.specs.Prelude.{◌≢◌, Result, Ok, Err, OnErr}
+use Rattle.std.specs.Prelude.{◌≢◌}
 use Rattle.std.proofs.lemmas.List.{length-map, length-set}
 use mathlib.Core.Option.{some, some-injective}
 use lib.ListN.{get_elem?}
@@ -103,8 +103,3 @@ module _ (k : Shape) where
   heard_done files budget group before after blocks shape is =
       let (front, done, one, same) = is 1 in
       heard_group files budget 1 group before after front done shape one
-
--- what holds in any case holds after an error
-pub on_err : {A B P : Type 0} (r : Result A B) → P → OnErr r P
-on_err (Ok a) p = tt
-on_err (Err e) p = p

@@ -202,10 +202,6 @@ walked_all b files budget jobs all first c l s i blocks past is w =
     subst (λ (x : List Job). DidJobs b.shape files budget x first c.account blocks) is
     (so_far_all b.shape files budget jobs first c.account l s (drop i jobs) blocks (drop_past jobs i past) w.so_far)
 
-pub on_err : {A B P : Type 0} (r : Result A B) → P → OnErr r P
-on_err (Ok a) p = tt
-on_err (Err e) p = p
-
 -- whether there is a value, and what is known then
 pub by_result : {A B : Type 0} (P Q : Type 0) (r : Result A B) (ok : Bool) → ok ≡ is_ok r → OnOk r P → OnErr r Q → MatchBool ok P Q
 by_result P Q (Ok a) ok e p q = subst (λ (t : Bool). MatchBool t P Q) (sym e) p

@@ -71,7 +71,7 @@ fn shelf(
     Ok(MemShelf::new(files, vec![in alloc; failing]?))
 }
 
-// Does what the words say over these files: the status.
+/// Does what the words say over these files: the status.
 pub fn done(
     rt: &impl Abort,
     alloc: Global,
@@ -85,6 +85,7 @@ pub fn done(
     Ok(htss_tool(alloc, &words, &mut shelf, out))
 }
 
+/// Asserts that a command line answers what it must.
 pub fn is_right(
     rt: &impl Abort,
     alloc: Global,

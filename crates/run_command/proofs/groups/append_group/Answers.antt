@@ -6,7 +6,8 @@ use Rattle.report_text.specs.declared.report.Block.{Block}
 use Rattle.htss_defs.specs.declared.shape.Shape.{Shape}
 use Rattle.script_run.specs.Workers.{accounts_of}
 use Rattle.run_command.specs.Runs.{with_header}
-use Rattle.run_command.proofs.Gone.{gone_only, heard_done, on_err}
+use Rattle.board_jobs.proofs.Chained.{on_err}
+use Rattle.run_command.proofs.Gone.{gone_only, heard_done}
 use Rattle.run_command.proofs.groups.append_group.Goals as goal
 
 pub returns-in_err-blocks-clause-broken : goal.returns-in_err-blocks-clause-broken

@@ -1,10 +1,9 @@
 use Rattle.std.proofs.Common.{◌≡◌, length, refl, arith}
-use Rattle.board_jobs.proofs.Chained.{if_err}
+use Rattle.board_jobs.proofs.Chained.{if_err, on_err}
 use Rattle.script_run.specs.Workers.{accounts_of, callers_of}
 use Rattle.script_run.proofs.Callers.{all_of, all_workers, met_callers}
 use Rattle.script_run.proofs.Groups.{all_merged, all_queues, all_whole, gone_on, group_broken, group_done, group_unbegun, lent_queues, worked_callers}
 use Rattle.script_run.proofs.Gates.{gates_before, gates_front, gates_whole}
-use Rattle.script_run.proofs.Walks.{on_err}
 use Rattle.script_run.proofs.group.run_group.Goals as goal
 
 pub work_all-requires-clause-workers : goal.work_all-requires-clause-workers

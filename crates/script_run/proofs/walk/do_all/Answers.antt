@@ -1,5 +1,6 @@
 use Rattle.std.proofs.Common.{◌+◌, ◌∙◌, true, false, drop, subst, sym, ap}
-use Rattle.script_run.proofs.Walks.{Walked, on_err, walked_after, walked_all, walked_in, walked_none, walked_other, walked_own, order_of}
+use Rattle.board_jobs.proofs.Chained.{on_err}
+use Rattle.script_run.proofs.Walks.{Walked, walked_after, walked_all, walked_in, walked_none, walked_other, walked_own, order_of}
 use Rattle.script_run.proofs.Passing.{OnTheWay, own_asked, way_after, way_all, way_none, way_other, way_own, way_stopped}
 use Rattle.script_run.proofs.walk.do_all.Goals as goal
 use Rattle.script_run.proofs.walk.do_all.Goals.{then-is_own+in_ok-block+in_ok-push_back, else-is_own}
