@@ -9,6 +9,7 @@ ghost use Rattle.ctfile.specs.Stream.{answer_of};
 use crate::cut::Pending;
 use htss_defs::{Adjacency, Mol, Name, OutOfMemory};
 use mol_section::{SectionOutcome, read_section_with};
+use ring_bonds::RingMarker;
 use std::alloc::Global;
 use std::marker::Model;
 
@@ -29,6 +30,8 @@ pub struct RecordReader {
     pending: Pending,
     // what bonds are linked into, one record after the other
     graph: Adjacency,
+    // what their ring bonds are marked in
+    marker: RingMarker,
     place: u32,
     line: u64,
     fed: u32,
@@ -61,6 +64,7 @@ impl RecordReader {
             alloc,
             pending: Pending::new(alloc),
             graph: Adjacency::new(),
+            marker: RingMarker::new(),
             place: 0,
             line: 0,
             fed: 0,
@@ -118,7 +122,13 @@ impl RecordReader {
             });
         };
         let section = &self.pending.bytes()[..taken.section];
-        let outcome = read_section_with(self.alloc, section, self.line + 1, &mut self.graph)?;
+        let outcome = read_section_with(
+            self.alloc,
+            section,
+            self.line + 1,
+            &mut self.graph,
+            &mut self.marker,
+        )?;
         self.pending.pass(taken.bytes);
         self.place += 1;
         self.line += taken.lines;

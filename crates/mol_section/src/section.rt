@@ -17,7 +17,7 @@ use crate::fields::trim;
 use crate::lines::next_line;
 use arrayvec::ArrayVec;
 use htss_defs::{Adjacency, Atom, Bond, Mol, Name, OutOfMemory};
-use ring_bonds::mark_linked;
+use ring_bonds::RingMarker;
 use std::alloc::Global;
 
 /// The outcome of the section with these bytes, whose first line has this number: its record,
@@ -28,15 +28,18 @@ pub fn read_section(alloc: Global, bytes: &[u8], first: u64) -> Result<SectionOu
     ensures { IfOk result (λ outcome. IsOutcome first (lines_of bytes.now) (outcome_of outcome)) }
 {
     let mut graph = Adjacency::new();
-    read_section_with(alloc, bytes, first, &mut graph)
+    let mut marker = RingMarker::new();
+    read_section_with(alloc, bytes, first, &mut graph, &mut marker)
 }
 
-/// The same, with a graph that is used again and again: what it was before makes no difference.
+/// The same, with a graph and a marker that are used again and again: what they were before makes
+/// no difference.
 pub fn read_section_with(
     alloc: Global,
     bytes: &[u8],
     first: u64,
     graph: &mut Adjacency,
+    marker: &mut RingMarker,
 ) -> Result<SectionOutcome, OutOfMemory>
     requires { first + length bytes.now < 2 ^ 64 }
     ensures { IfOk result (λ outcome. IsOutcome first (lines_of bytes.now) (outcome_of outcome)) }
@@ -49,13 +52,13 @@ pub fn read_section_with(
         }),
         Ok(draft) => Ok(SectionOutcome::Accepted {
             name: name_of(first_line(bytes)),
-            mol: marked(draft.atoms, draft.bonds, graph),
+            mol: marked(draft.atoms, draft.bonds, graph, marker),
         }),
     }
 }
 
 // The molecule of these lists, whose graph this is, with its ring bonds marked.
-fn marked(atoms: Vec<Atom>, bonds: Vec<Bond>, graph: &Adjacency) -> Mol
+fn marked(atoms: Vec<Atom>, bonds: Vec<Bond>, graph: &Adjacency, marker: &mut RingMarker) -> Mol
     requires valid { IsMolecule (record { atoms = atoms.items; bonds = bonds.items }) }
     requires graph { graph.now
         ≡ molecule_graph (record { atoms = atoms.items; bonds = bonds.items }) }
@@ -64,7 +67,7 @@ fn marked(atoms: Vec<Atom>, bonds: Vec<Bond>, graph: &Adjacency) -> Mol
     ensures bonds { map unmarked result.bonds ≡ map unmarked bonds.items }
 {
     let mut mol = Mol::of_valid(atoms, bonds);
-    mark_linked(&mut mol, graph);
+    marker.mark(&mut mol, graph);
     mol
 }
 

@@ -1,6 +1,6 @@
 // Which bonds of molecules, queries and graphs are ring bonds.
 use htss_defs::{Adjacency, Atom, AtomTest, Bond, Ends, Mol, Query, QueryAtom, QueryBond};
-use ring_bonds::{mark_rings, marked_query, ring_flags};
+use ring_bonds::{RingMarker, mark_rings, marked_query, ring_flags};
 use std::alloc::{AllocError, Global};
 use std::test::Fail;
 
@@ -90,8 +90,8 @@ fn query_bonds_of(
     Ok(bonds)
 }
 
-// Whether the molecule of the sketch has its flags once it is marked. Flags that were set before do not matter.
-fn marks_molecule(alloc: Global, sketch: &Sketch) -> Result<bool, Fail> {
+// The molecule of the sketch. Its flags are wrong.
+fn molecule_of(alloc: Global, sketch: &Sketch) -> Result<Mol, Fail> {
     let carbon = Atom {
         element: 6,
         charge: 0,
@@ -99,8 +99,23 @@ fn marks_molecule(alloc: Global, sketch: &Sketch) -> Result<bool, Fail> {
     };
     let atoms = vec![in alloc; carbon; sketch.atoms]?;
     let bonds = bonds_of(alloc, sketch, true)?;
-    let mut mol = Mol::new(atoms, bonds).ok_or("no molecule")?;
+    Ok(Mol::new(atoms, bonds).ok_or("no molecule")?)
+}
+
+// Whether the molecule of the sketch has its flags once it is marked. Flags that were set before do not matter.
+fn marks_molecule(alloc: Global, sketch: &Sketch) -> Result<bool, Fail> {
+    let mut mol = molecule_of(alloc, sketch)?;
     mark_rings(&mut mol);
+    let want = bonds_of(alloc, sketch, false)?;
+    Ok(mol.bonds() == want.as_slice())
+}
+
+// Whether it has them too where the marker has marked other molecules before.
+fn marks_next(alloc: Global, sketch: &Sketch, marker: &mut RingMarker) -> Result<bool, Fail> {
+    let mut mol = molecule_of(alloc, sketch)?;
+    let mut graph = Adjacency::new();
+    mol.link(&mut graph);
+    marker.mark(&mut mol, &graph);
     let want = bonds_of(alloc, sketch, false)?;
     Ok(mol.bonds() == want.as_slice())
 }
@@ -126,10 +141,12 @@ fn marks_query(alloc: Global, sketch: &Sketch) -> Result<bool, Fail> {
 
 #[test]
 fn marks_ring_bonds(rt: HostRuntime) -> Result<(), Fail> {
+    let mut marker = RingMarker::new();
     for sketch in SKETCHES {
         let molecule = marks_molecule(rt.alloc(), sketch)?;
+        let next = marks_next(rt.alloc(), sketch, &mut marker)?;
         let query = marks_query(rt.alloc(), sketch)?;
-        assert!(rt; molecule && query, "{} atoms", sketch.atoms);
+        assert!(rt; molecule && next && query, "{} atoms", sketch.atoms);
     }
     Ok(())
 }

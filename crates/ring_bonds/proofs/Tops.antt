@@ -1,5 +1,5 @@
 -- Shortcuts over marked bonds: what halving one, marking one more bond, and rising by one bond keep.
-use Rattle.std.proofs.Common.{◌≡◌, ◌≢◌, ℕ, ◌+◌, ◌-◌, ◌<◌, ◌≤◌, Bool, true, false, List, length, get_or, set, refl, sym, subst, ap, ◌∙◌, inl, inr, arith}
+use Rattle.std.proofs.Common.{◌≡◌, ◌≢◌, ℕ, zero, suc, ◌+◌, ◌-◌, ◌<◌, ◌≤◌, Bool, true, false, List, length, get_or, set, refl, sym, subst, ap, ◌∙◌, inl, inr, arith}
 use Rattle.std.specs.Prelude.{slice_get, Some}
 use Rattle.std.proofs.lemmas.Bool.{cases_eq}
 use Rattle.std.proofs.lemmas.List.{get_or-set_same, get_or-set_other}
@@ -9,8 +9,9 @@ use Rattle.htss_defs.specs.Graph.{Graph, IsRingBond}
 use Rattle.htss_defs.specs.Adjacency.{JoinsAt, IsGraph}
 use Rattle.ring_bonds.specs.declared.forest.Forest.{Forest}
 use Rattle.ring_bonds.specs.declared.marking.Marking.{Marking}
-use Rattle.ring_bonds.specs.Forest.{parent_of, above_of, depth_of, tree_of, IsStep, IsRoot, AreTrees, IsForest, IsTreeBond, IsOnWay, IsRise, AreRises}
+use Rattle.ring_bonds.specs.Forest.{parent_of, above_of, depth_of, tree_of, IsStep, IsRoot, AreTrees, IsForest, IsTreeBond, Climbs, IsOnWay, IsRise, AreRises}
 use Rattle.ring_bonds.specs.Marking.{flag_of, IsUp, Leads, IsRest, IsClimb, IsTop, AreTops, AreSound, Grows, Meets, IsClosed, IsDone, AreDone, IsMarking}
+use Rattle.ring_bonds.specs.Visits.{IsUnseen}
 use Rattle.ring_bonds.proofs.Walks.{JoinsAt-sym, joins-ends}
 use Rattle.ring_bonds.proofs.Climbs.{Leads-stay, Leads-up, Leads-trans, Leads-grow, IsOnWay-Leads, IsOnWay-lower, IsOnWay-tree, IsOnWay-through}
 use Rattle.ring_bonds.proofs.Rings.{IsRingBond-above, IsRingBond-beside}
@@ -63,6 +64,16 @@ AreTops-start f flags tops down own = record {
   lower = λ x within other. absurd (other (own x within));
   rests = λ x within same. record { free = λ has. down (above_of f x - 1) };
 }
+
+climbs-none : (f : Forest) (flags : List Bool) (n x y : ℕ) → above_of f x ≡ 0 → Climbs (IsUp f flags) f.parent n x y → y ≡ x
+climbs-none f flags zero x y none w = sym w
+climbs-none f flags (suc n) x y none w = absurd (omega (arith, w.0.0))
+
+-- a place that the search has not seen is its own top
+pub AreTops-unseen : (f : Forest) (flags : List Bool) (tops : List ℕ) (x : ℕ) → AreTops f flags tops → x < 1000 → IsUnseen f x → get_or tops x 0 ≡ x
+AreTops-unseen f flags tops x a within unseen =
+    let up : Leads f flags x (get_or tops x 0) = (a.climbs x within).leads in
+    climbs-none f flags up.steps x (get_or tops x 0) unseen.above up.climbs
 
 pub AreTops-halve : (f : Forest) (flags : List Bool) (tops : List ℕ) (x : ℕ) → AreTops f flags tops → x < 1000 → get_or tops x 0 ≢ x → length tops ≡ 1000 → AreTops f flags (set tops x (get_or tops (get_or tops x 0) 0))
 AreTops-halve f flags tops x a within moves size =
@@ -240,14 +251,14 @@ IsClosing-ring g f flags k x y a b t r c other deep =
 pub record IsRisen (g : Graph) (m w : Marking) (k x y a b r : ℕ) : Type 0 where
   pub valid : IsMarking g w
   pub grows : Grows m.flags w.flags
-  pub closing : IsClosing g w.forest w.flags k x y r b
-  pub lower : depth_of w.forest r < depth_of m.forest a
-  pub other : depth_of w.forest b ≡ depth_of m.forest b
+  pub closing : IsClosing g w.visits.forest w.flags k x y r b
+  pub lower : depth_of w.visits.forest r < depth_of m.visits.forest a
+  pub other : depth_of w.visits.forest b ≡ depth_of m.visits.forest b
 
-risen : (g : Graph) (m w : Marking) (k x y a b r : ℕ) → IsGraph g → IsMarking g m → IsClosing g m.forest m.flags k x y a b → a ≢ b → depth_of m.forest b ≤ depth_of m.forest a → length m.flags ≡ 999
-    → w.flags ≡ set m.flags (above_of m.forest a - 1) true → AreTops m.forest w.flags w.tops → IsTop m.forest w.flags (parent_of m.forest a) r → IsRisen g m (record { forest = m.forest; tops = w.tops; flags = w.flags }) k x y a b r
+risen : (g : Graph) (m w : Marking) (k x y a b r : ℕ) → IsGraph g → IsMarking g m → IsClosing g m.visits.forest m.flags k x y a b → a ≢ b → depth_of m.visits.forest b ≤ depth_of m.visits.forest a → length m.flags ≡ 999
+    → w.flags ≡ set m.flags (above_of m.visits.forest a - 1) true → AreTops m.visits.forest w.flags w.tops → IsTop m.visits.forest w.flags (parent_of m.visits.forest a) r → IsRisen g m (record { visits = record w.visits { forest = m.visits.forest }; tops = w.tops; flags = w.flags }) k x y a b r
 risen g m w k x y a b r graph valid c other deep size marked tops top =
-    let f : Forest = m.forest in
+    let f : Forest = m.visits.forest in
     let t : AreTrees g f = valid.forest.trees in
     let rises : AreRises f = AreRises-of g f graph t in
     let has : 0 < above_of f a = IsClosing-above g f m.flags k x y a b t c other deep in
@@ -283,29 +294,29 @@ risen g m w k x y a b r graph valid c other deep size marked tops top =
       other = refl;
     }
 
-pub IsRisen-of : (g : Graph) (m w : Marking) (k x y a b r : ℕ) → IsGraph g → IsMarking g m → IsClosing g m.forest m.flags k x y a b → a ≢ b → depth_of m.forest b ≤ depth_of m.forest a → length m.flags ≡ 999
-    → w.forest ≡ m.forest → w.flags ≡ set m.flags (above_of m.forest a - 1) true → AreTops w.forest w.flags w.tops → IsTop w.forest w.flags (parent_of w.forest a) r → IsRisen g m w k x y a b r
+pub IsRisen-of : (g : Graph) (m w : Marking) (k x y a b r : ℕ) → IsGraph g → IsMarking g m → IsClosing g m.visits.forest m.flags k x y a b → a ≢ b → depth_of m.visits.forest b ≤ depth_of m.visits.forest a → length m.flags ≡ 999
+    → w.visits.forest ≡ m.visits.forest → w.flags ≡ set m.flags (above_of m.visits.forest a - 1) true → AreTops w.visits.forest w.flags w.tops → IsTop w.visits.forest w.flags (parent_of w.visits.forest a) r → IsRisen g m w k x y a b r
 IsRisen-of g m w k x y a b r graph valid c other deep size forest marked tops top =
-    let tops_then : AreTops m.forest w.flags w.tops = subst (λ (h : Forest). AreTops h w.flags w.tops) forest tops in
-    let top_then : IsTop m.forest w.flags (parent_of m.forest a) r = subst (λ (h : Forest). IsTop h w.flags (parent_of h a) r) forest top in
-    subst (λ (h : Forest). IsRisen g m (record { forest = h; tops = w.tops; flags = w.flags }) k x y a b r) (sym forest)
+    let tops_then : AreTops m.visits.forest w.flags w.tops = subst (λ (h : Forest). AreTops h w.flags w.tops) forest tops in
+    let top_then : IsTop m.visits.forest w.flags (parent_of m.visits.forest a) r = subst (λ (h : Forest). IsTop h w.flags (parent_of h a) r) forest top in
+    subst (λ (h : Forest). IsRisen g m (record { visits = record w.visits { forest = h }; tops = w.tops; flags = w.flags }) k x y a b r) (sym forest)
     (risen g m w k x y a b r graph valid c other deep size marked tops_then top_then)
 
 -- before the first rise: the bond itself is marked
 pub record IsBegun (g : Graph) (m w : Marking) (k x y a b : ℕ) : Type 0 where
   pub valid : IsMarking g w
-  pub forest : w.forest ≡ m.forest
+  pub forest : w.visits.forest ≡ m.visits.forest
   pub flags : w.flags ≡ set m.flags k true
-  pub closing : IsClosing g w.forest w.flags k x y a b
+  pub closing : IsClosing g w.visits.forest w.flags k x y a b
 
-pub IsBegun-of : (g : Graph) (m v w : Marking) (k a b : ℕ) (e : Ends) → IsMarking g m → (IsTreeBond m.forest k → ⊥) → slice_get g.bonds k ≡ Some e → v.forest ≡ m.forest → v.flags ≡ set m.flags k true → IsTop v.forest v.flags e.first a
-    → w.forest ≡ v.forest → w.flags ≡ v.flags → AreTops w.forest w.flags w.tops → IsTop w.forest w.flags e.second b → IsBegun g m w k e.first e.second a b
+pub IsBegun-of : (g : Graph) (m v w : Marking) (k a b : ℕ) (e : Ends) → IsMarking g m → (IsTreeBond m.visits.forest k → ⊥) → slice_get g.bonds k ≡ Some e → v.visits.forest ≡ m.visits.forest → v.flags ≡ set m.flags k true → IsTop v.visits.forest v.flags e.first a
+    → w.visits.forest ≡ v.visits.forest → w.flags ≡ v.flags → AreTops w.visits.forest w.flags w.tops → IsTop w.visits.forest w.flags e.second b → IsBegun g m w k e.first e.second a b
 IsBegun-of g m v w k a b e valid beside here forest_v flags_v first forest_w flags_w tops second =
-    let forest : w.forest ≡ m.forest = forest_w ∙ forest_v in
+    let forest : w.visits.forest ≡ m.visits.forest = forest_w ∙ forest_v in
     let flags : w.flags ≡ set m.flags k true = flags_w ∙ flags_v in
     let joined : JoinsAt g k e.first e.second = record { ends = e; here = here; joined = straight e } in
-    let spans : IsForest g w.forest = subst (λ (h : Forest). IsForest g h) (sym forest) valid.forest in
-    let ring : IsRingBond g k = IsRingBond-beside g m.forest k e valid.forest here joined beside in
+    let spans : IsForest g w.visits.forest = subst (λ (h : Forest). IsForest g h) (sym forest) valid.forest in
+    let ring : IsRingBond g k = IsRingBond-beside g m.visits.forest k e valid.forest here joined beside in
     record {
       valid = record { forest = spans; tops = tops; sound = subst (λ (bs : List Bool). AreSound g bs) (sym flags) (AreSound-set g m.flags k valid.sound ring) };
       forest = forest;
@@ -315,7 +326,7 @@ IsBegun-of g m v w k a b e valid beside here forest_v flags_v first forest_w fla
         beside = λ tree. beside (subst (λ (h : Forest). IsTreeBond h k) forest tree);
         seen = (spans.spans k e here).seen;
         tree = (spans.spans k e here).same;
-        here = IsTop-same v.forest w.forest v.flags w.flags e.first a forest_w flags_w first;
+        here = IsTop-same v.visits.forest w.visits.forest v.flags w.flags e.first a forest_w flags_w first;
         there = second;
       };
     }
@@ -349,7 +360,7 @@ done_more g f before after n k done grows now within = elim (cases_eq k n) [
   ]
 ]
 
-pub AreDone-more : (g : Graph) (m w : Marking) (n : ℕ) → AreDone g m.forest m.flags n → w.forest ≡ m.forest → Grows m.flags w.flags → IsDone g w.forest w.flags n → AreDone g w.forest w.flags (n + 1)
+pub AreDone-more : (g : Graph) (m w : Marking) (n : ℕ) → AreDone g m.visits.forest m.flags n → w.visits.forest ≡ m.visits.forest → Grows m.flags w.flags → IsDone g w.visits.forest w.flags n → AreDone g w.visits.forest w.flags (n + 1)
 AreDone-more g m w n done forest grows now =
-    let then : AreDone g w.forest m.flags n = subst (λ (h : Forest). AreDone g h m.flags n) (sym forest) done in
-    record { each = λ k within. done_more g w.forest m.flags w.flags n k then grows now within }
+    let then : AreDone g w.visits.forest m.flags n = subst (λ (h : Forest). AreDone g h m.flags n) (sym forest) done in
+    record { each = λ k within. done_more g w.visits.forest m.flags w.flags n k then grows now within }

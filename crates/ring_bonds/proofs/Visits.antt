@@ -13,7 +13,7 @@ use Rattle.ring_bonds.specs.declared.forest.Forest.{Forest}
 use Rattle.ring_bonds.specs.declared.forest.Found.{Found}
 use Rattle.ring_bonds.specs.declared.forest.Visits.{Visits}
 use Rattle.ring_bonds.specs.Forest.{parent_of, above_of, depth_of, tree_of, IsStep, IsRoot, AreTrees, IsInTree, IsForest, IsTreeBond}
-use Rattle.ring_bonds.specs.Visits.{count_seen, with_place, with_visit, HasEndAt, IsSettled, IsExplored, IsQueued, StandsAt, AreVisits, AreDoneVisits, IsLater, IsFirstFound, IsNextFound}
+use Rattle.ring_bonds.specs.Visits.{count_seen, with_place, with_visit, AreBlankVisits, IsUnseen, HasEndAt, IsSettled, IsExplored, IsQueued, StandsAt, AreVisits, AreDoneVisits, IsLater, IsFirstFound, IsNextFound}
 use Rattle.ring_bonds.proofs.Walks.{JoinsAt-sym, joins-ends}
 
 -- ---- lists of numbers
@@ -22,6 +22,15 @@ pub get_or-all : {X : Type 0} (n x : ℕ) (d : X) → get_or (replicate n d) x d
 get_or-all n x d = elim (cases_lt x n) [
   | inl within ↦ get_or-replicate n x d d within
   | inr past ↦ get_or_past (replicate n d) x d (omega (arith, length-replicate n d))
+]
+
+pub get_or-cleared : {X : Type 0} (xs : List X) (x y : ℕ) (d : X) → (y ≢ x → get_or xs y d ≡ d) → get_or (set xs x d) y d ≡ d
+get_or-cleared {X = X} xs x y d other = elim (cases_eq y x) [
+  | inl same ↦ elim (cases_lt x (length xs)) [
+    | inl within ↦ subst (λ (z : ℕ). get_or (set xs x d) z d ≡ d) (sym same) (get_or-set_same xs x d d within)
+    | inr past ↦ get_or_past (set xs x d) y d (omega (arith, length-set xs x d))
+  ]
+  | inr apart ↦ get_or-set_other xs x y d d apart ∙ other apart
 ]
 
 pub count_seen-none : (xs : List ℕ) → ((x : ℕ) → get_or xs x 0 ≡ 0) → count_seen xs ≡ 0
@@ -178,6 +187,10 @@ AreVisits-visit g v head root x found a s within room atoms in_front some tree u
             ]
         | inr other ↦ let e : depth_of h y ≡ depth_of f y = (same_at y other).depth in omega (arith, a.shallow y)
       ];
+      unseen = λ y none. elim (cases_eq y x) [
+        | inl same ↦ absurd (let e : tree_of h y ≡ root = ap (tree_of h) same ∙ tree_here in omega arith)
+        | inr other ↦ (same_at y other).depth ∙ a.unseen y (sym (same_at y other).tree ∙ none)
+      ];
       queued = λ i lt. elim (cases_eq i v.seen) [
         | inl last ↦
             let e : get_or w.queue i 0 ≡ x = ap (λ (n : ℕ). get_or w.queue n 0) last ∙ queue_here in
@@ -283,6 +296,7 @@ AreVisits-explored g v head root x link a is w end =
       few = a.few;
       counted = a.counted;
       shallow = a.shallow;
+      unseen = a.unseen;
       queued = a.queued;
       stands = a.stands;
       explored = λ i lt. elim (cases_eq i head) [
@@ -301,25 +315,54 @@ AreVisits-next g v head root next a all = record {
   few = a.few;
   counted = a.counted;
   shallow = a.shallow;
+  unseen = a.unseen;
   queued = a.queued;
   stands = a.stands;
   explored = λ i lt. a.explored i (omega arith);
   fresh = λ i le lt. absurd (omega arith);
 }
 
-pub AreVisits-none : (g : Graph) (v : Visits) → v.seen ≡ 0 → ((x : ℕ) → tree_of v.forest x ≡ 0) → ((x : ℕ) → above_of v.forest x ≡ 0) → ((x : ℕ) → depth_of v.forest x ≡ 0) → AreDoneVisits g v
-AreVisits-none g v none trees above depth = record {
+pub AreVisits-none : (g : Graph) (v : Visits) → AreBlankVisits v → AreDoneVisits g v
+AreVisits-none g v blank = record {
   trees = record {
-    steps = λ x has. absurd (omega (arith, above x));
-    roots = λ x seen root. absurd (omega (arith, trees x));
+    steps = λ x has. absurd (omega (arith, (blank.places x).above));
+    roots = λ x seen root. absurd (omega (arith, (blank.places x).tree));
   };
-  few = omega arith;
-  counted = count_seen-none v.forest.tree trees ∙ sym none;
-  shallow = λ x. omega (arith, depth x);
-  queued = λ i lt. absurd (omega arith);
-  stands = λ x seen. absurd (omega (arith, trees x));
-  explored = λ i lt. absurd (omega arith);
-  fresh = λ i le lt. absurd (omega arith);
+  few = omega (arith, blank.seen);
+  counted = count_seen-none v.forest.tree (λ x. (blank.places x).tree) ∙ sym blank.seen;
+  shallow = λ x. omega (arith, (blank.places x).depth);
+  unseen = λ x none. (blank.places x).depth;
+  queued = λ i lt. absurd (omega (arith, blank.seen));
+  stands = λ x seen. absurd (omega (arith, (blank.places x).tree));
+  explored = λ i lt. absurd (omega (arith, blank.seen));
+  fresh = λ i le lt. absurd (omega (arith, blank.seen));
+}
+
+-- the search has not been past the places of the graph
+pub IsUnseen-past : (g : Graph) (v : Visits) (x : ℕ) → AreDoneVisits g v → g.atoms < x → IsUnseen v.forest x
+IsUnseen-past g v x a past =
+    let none : tree_of v.forest x ≡ 0 = elim (cases_eq (tree_of v.forest x) 0) [
+      | inl is ↦ is
+      | inr some ↦
+          let place : StandsAt v x = a.stands x (omega arith) in
+          let queued : IsQueued g v.forest x = subst (λ (z : ℕ). IsQueued g v.forest z) place.is (a.queued place.index place.within) in
+          absurd (omega (arith, queued.within))
+    ] in
+    record {
+      above = elim (cases_eq (above_of v.forest x) 0) [
+        | inl is ↦ is
+        | inr some ↦ absurd (omega (arith, (a.trees.steps x (omega arith)).seen))
+      ];
+      depth = a.unseen x none;
+      tree = none;
+    }
+
+-- forgetting one place
+pub IsUnseen-cleared : (f : Forest) (x y : ℕ) → (y ≢ x → IsUnseen f y) → IsUnseen (record f { above = set f.above x 0; depth = set f.depth x 0; tree = set f.tree x 0 }) y
+IsUnseen-cleared f x y other = record {
+  above = get_or-cleared f.above x y 0 (λ is. (other is).above);
+  depth = get_or-cleared f.depth x y 0 (λ is. (other is).depth);
+  tree = get_or-cleared f.tree x y 0 (λ is. (other is).tree);
 }
 
 pub IsForest-of : (g : Graph) (v : Visits) → IsGraph g → AreDoneVisits g v → ((x : ℕ) → 1 ≤ x → x ≤ g.atoms → 0 < tree_of v.forest x) → IsForest g v.forest

@@ -1,10 +1,11 @@
 -- Marks on the bonds of a forest, and the shortcuts over those that are marked.
-use Rattle.std.specs.Prelude.{◌≡◌, ◌≢◌, ◌⊎◌, ℕ, ◌-◌, ◌<◌, ◌≤◌, List, Bool, true, false, Some, slice_get, slice_index, slice_index_or, slice_set}
+use Rattle.std.specs.Prelude.{◌≡◌, ◌≢◌, ◌↔◌, ◌⊎◌, ℕ, IsTrue, ◌-◌, ◌<◌, ◌≤◌, List, Bool, true, false, Some, slice_get, slice_index, slice_index_or, slice_set}
 use Rattle.htss_defs.specs.declared.graph.Ends.{Ends}
 use Rattle.htss_defs.specs.Graph.{Graph, IsRingBond}
 use Rattle.ring_bonds.specs.declared.forest.Forest.{Forest}
 use Rattle.ring_bonds.specs.declared.marking.Marking.{Marking}
 use Rattle.ring_bonds.specs.Forest.{Climbs, above_of, depth_of, IsForest, IsTreeBond}
+use Rattle.ring_bonds.specs.Visits.{AreBlankVisits, IsUnseen}
 
 abbrev pub flag_of : List Bool → ℕ → Bool
 flag_of flags k = slice_index_or flags k false
@@ -70,6 +71,18 @@ pub record AreDone (g : Graph) (f : Forest) (flags : List Bool) (n : ℕ) : Type
 
 -- the forest spans the graph, the shortcuts are right, and all that is marked is in a ring
 pub record IsMarking (g : Graph) (m : Marking) : Type 0 where
-  pub forest : IsForest g m.forest
-  pub tops : AreTops m.forest m.flags m.tops
+  pub forest : IsForest g m.visits.forest
+  pub tops : AreTops m.visits.forest m.flags m.tops
   pub sound : AreSound g m.flags
+
+-- nothing has been seen, and nothing is marked
+pub record IsBlank (m : Marking) : Type 0 where
+  pub visits : AreBlankVisits m.visits
+  pub tops : (x : ℕ) → x < 1000 → slice_index m.tops x ≡ x
+  pub flags : (k : ℕ) → flag_of m.flags k ≡ false
+
+-- the ring bonds are marked and no other, and past the places of the graph all is as it was
+pub record IsAllMarked (g : Graph) (m : Marking) : Type 0 where
+  pub rings : (k : ℕ) → (IsTrue (flag_of m.flags k) ↔ IsRingBond g k)
+  pub places : (x : ℕ) → g.atoms < x → IsUnseen m.visits.forest x
+  pub tops : (x : ℕ) → g.atoms < x → x < 1000 → slice_index m.tops x ≡ x

@@ -6,7 +6,7 @@ use Rattle.htss_defs.specs.Adjacency.{JoinsAt}
 use Rattle.ring_bonds.specs.declared.forest.Forest.{Forest}
 use Rattle.ring_bonds.specs.declared.forest.Found.{Found}
 use Rattle.ring_bonds.specs.declared.forest.Visits.{Visits}
-use Rattle.ring_bonds.specs.Forest.{depth_of, tree_of, AreTrees, IsInTree}
+use Rattle.ring_bonds.specs.Forest.{above_of, depth_of, tree_of, AreTrees, IsInTree}
 
 -- how many are not 0
 unfoldable pub count_seen : List ℕ → ℕ
@@ -21,6 +21,17 @@ with_place f place found = record {
   depth = slice_set f.depth place found.depth;
   tree = slice_set f.tree place found.tree;
 }
+
+-- the search has not been at the place
+pub record IsUnseen (f : Forest) (x : ℕ) : Type 0 where
+  pub above : above_of f x ≡ 0
+  pub depth : depth_of f x ≡ 0
+  pub tree : tree_of f x ≡ 0
+
+-- nothing has been seen
+pub record AreBlankVisits (v : Visits) : Type 0 where
+  pub seen : v.seen ≡ 0
+  pub places : (x : ℕ) → IsUnseen v.forest x
 
 -- one more place at the end of the queue
 abbrev pub with_visit : Visits → ℕ → Found → Visits
@@ -60,6 +71,7 @@ pub record AreVisits (g : Graph) (v : Visits) (head root : ℕ) : Type 0 where
   pub few : v.seen ≤ 1000
   pub counted : count_seen v.forest.tree ≡ v.seen
   pub shallow : (x : ℕ) → depth_of v.forest x ≤ v.seen
+  pub unseen : (x : ℕ) → tree_of v.forest x ≡ 0 → depth_of v.forest x ≡ 0
   pub queued : (i : ℕ) → i < v.seen → IsQueued g v.forest (slice_index v.queue i)
   pub stands : (x : ℕ) → 0 < tree_of v.forest x → StandsAt v x
   pub explored : (i : ℕ) → i < head → IsExplored g v.forest (slice_index v.queue i)

@@ -1,9 +1,9 @@
 // A spanning forest of a graph, by a search in breadth, in arrays of a fixed size.
 ghost use Rattle.std.specs.Prelude.{◌≡◌, ◌≢◌, ◌↔◌, ℕ, ◌+◌, ◌<◌, ◌≤◌, IsTrue, length, slice_index};
 ghost use Rattle.htss_defs.specs.Adjacency.{IsGraph};
-ghost use Rattle.ring_bonds.specs.Forest.{IsForest, IsTreeBond, above_of, depth_of, tree_of};
+ghost use Rattle.ring_bonds.specs.Forest.{IsForest, IsTreeBond, tree_of};
 ghost use Rattle.ring_bonds.specs.Visits.{AreVisits, AreDoneVisits, HasEndAt, IsSettled, IsLater};
-ghost use Rattle.ring_bonds.specs.Visits.{with_visit};
+ghost use Rattle.ring_bonds.specs.Visits.{AreBlankVisits, IsUnseen, with_visit};
 
 use htss_defs::{Adjacency, Ends};
 
@@ -27,23 +27,13 @@ pub struct Found {
     pub tree: u16,
 }
 
-/// A search in breadth. The places seen so far stand in a queue.
+/// A search in breadth. The places seen so far stand in a queue. Between searches it is blank: a
+/// search clears nothing, and what it has seen is forgotten afterwards.
 #[derive(Drop)]
 pub struct Visits {
     pub forest: Forest,
     pub queue: [u16; 1000],
     pub seen: usize,
-}
-
-/// A spanning forest of the graph.
-pub fn forest_of(graph: &Adjacency) -> Forest
-    ensures { IsForest graph.now result }
-{
-    let mut visits = Visits::new();
-    for root in 1..graph.atoms() + 1 {
-        visits.search_from(graph, root);
-    }
-    visits.forest
 }
 
 impl Forest {
@@ -60,11 +50,9 @@ impl Forest {
 }
 
 impl Visits {
-    fn new() -> Visits
-        ensures seen { result.seen ≡ 0 }
-        ensures trees { (x : ℕ) → tree_of result.forest x ≡ 0 }
-        ensures above { (x : ℕ) → above_of result.forest x ≡ 0 }
-        ensures depth { (x : ℕ) → depth_of result.forest x ≡ 0 }
+    /// One that has seen nothing.
+    pub fn new() -> Visits
+        ensures { AreBlankVisits result }
     {
         Visits {
             forest: Forest {
@@ -76,6 +64,31 @@ impl Visits {
             queue: [0; 1000],
             seen: 0,
         }
+    }
+
+    /// Finds a spanning forest of the graph, at the cost of its atoms and bonds.
+    pub fn search(&mut self, graph: &Adjacency)
+        requires { AreBlankVisits self.old }
+        ensures forest { IsForest graph.now self.new.forest }
+        ensures past { (x : ℕ) → graph.now.atoms < x → IsUnseen self.new.forest x }
+    {
+        for root in 1..graph.atoms() + 1 {
+            self.search_from(graph, root);
+        }
+    }
+
+    /// Forgets what it has seen among so many atoms, at the cost of their number.
+    pub fn clear(&mut self, atoms: u16)
+        requires atoms { atoms ≤ 999 }
+        requires past { (x : ℕ) → atoms < x → IsUnseen self.old.forest x }
+        ensures { AreBlankVisits self.new }
+    {
+        for x in 0..atoms as usize + 1 {
+            self.forest.above[x] = 0;
+            self.forest.depth[x] = 0;
+            self.forest.tree[x] = 0;
+        }
+        self.seen = 0;
     }
 
     // Finds the tree of the root, unless the place has been seen.

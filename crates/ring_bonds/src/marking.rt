@@ -5,17 +5,17 @@ ghost use Rattle.std.specs.Prelude.{◌≡◌, ◌≢◌, ◌↔◌, ℕ, ◌<�
 ghost use Rattle.std.specs.Prelude.{slice_index, slice_index_or};
 ghost use Rattle.htss_defs.specs.Graph.{IsRingBond};
 ghost use Rattle.ring_bonds.specs.Forest.{AreRises, IsTreeBond, above_of, parent_of};
-ghost use Rattle.ring_bonds.specs.Marking.{AreTops, Grows, IsClosed, IsDone, IsMarking, IsTop};
-ghost use Rattle.ring_bonds.specs.Marking.{flag_of, with_mark};
+ghost use Rattle.ring_bonds.specs.Marking.{AreTops, Grows, IsAllMarked, IsBlank, IsClosed, IsDone};
+ghost use Rattle.ring_bonds.specs.Marking.{IsMarking, IsTop, flag_of, with_mark};
 
-use crate::forest::{Forest, forest_of};
+use crate::forest::Visits;
 use htss_defs::Adjacency;
 
-/// A spanning forest, and the flags of the bonds marked so far. `tops` gives for each place one
-/// further up over marked bonds, so that no marked stretch is climbed often.
+/// The search that finds a spanning forest, and the flags of the bonds marked so far. `tops` gives
+/// for each place one further up over marked bonds, so that no marked stretch is climbed often.
 #[derive(Drop)]
 pub struct Marking {
-    pub forest: Forest,
+    pub visits: Visits,
     pub tops: [u16; 1000],
     pub flags: [bool; 999],
 }
@@ -25,40 +25,56 @@ pub struct Marking {
 pub fn ring_flags(graph: &Adjacency) -> [bool; 999]
     ensures { (k : ℕ) → (IsTrue (slice_index_or result k false) ↔ IsRingBond graph.now k) }
 {
-    // made in place: a marking is 11 KB
-    let mut marking = Marking {
-        forest: forest_of(graph),
-        tops: own_places(),
-        flags: [false; 999],
-    };
-    for bond in 0..graph.bonds().len() {
-        marking.mark(graph, bond);
-    }
+    let mut marking = Marking::new();
+    marking.mark_all(graph);
     marking.flags
 }
 
-// Each place itself.
-fn own_places() -> [u16; 1000]
-    ensures { (x : ℕ) → x < 1000 → slice_index result x ≡ x }
-{
-    let mut places = [0; 1000];
-    for x in 0..1000 {
-        places[x] = x as u16;
-    }
-    places
-}
-
 impl Marking {
+    /// One in which nothing is marked.
+    pub fn new() -> Marking
+        ensures { IsBlank result }
+    {
+        let mut tops = [0; 1000];
+        own_tops(&mut tops, 999);
+        Marking {
+            visits: Visits::new(),
+            tops,
+            flags: [false; 999],
+        }
+    }
+
+    /// Marks the ring bonds of the graph and no other, at the cost of its atoms and bonds.
+    pub fn mark_all(&mut self, graph: &Adjacency)
+        requires { IsBlank self.old }
+        ensures { IsAllMarked graph.now self.new }
+    {
+        self.visits.search(graph);
+        for bond in 0..graph.bonds().len() {
+            self.mark(graph, bond);
+        }
+    }
+
+    /// Makes it blank again, at the cost of the atoms and bonds of the graph that was marked.
+    pub fn clear(&mut self, graph: &Adjacency)
+        requires { IsAllMarked graph.now self.old }
+        ensures { IsBlank self.new }
+    {
+        self.visits.clear(graph.atoms());
+        own_tops(&mut self.tops, graph.atoms());
+        lower_flags(&mut self.flags, graph.bonds().len());
+    }
+
     // Marks what the bond closes, unless it is in the forest.
     fn mark(&mut self, graph: &Adjacency, bond: usize)
         requires valid { IsMarking graph.now self.old }
         requires bond { bond < length graph.now.bonds }
         ensures valid { IsMarking graph.now self.new }
-        ensures forest { self.new.forest ≡ self.old.forest }
+        ensures forest { self.new.visits.forest ≡ self.old.visits.forest }
         ensures grows { Grows self.old.flags self.new.flags }
-        ensures done { IsDone graph.now self.new.forest self.new.flags bond }
+        ensures done { IsDone graph.now self.new.visits.forest self.new.flags bond }
     {
-        if !self.forest.has_bond(graph, bond) {
+        if !self.visits.forest.has_bond(graph, bond) {
             self.close(graph, bond);
         }
     }
@@ -67,18 +83,20 @@ impl Marking {
     fn close(&mut self, graph: &Adjacency, bond: usize)
         requires valid { IsMarking graph.now self.old }
         requires bond { bond < length graph.now.bonds }
-        requires beside { ¬ IsTreeBond self.old.forest bond }
+        requires beside { ¬ IsTreeBond self.old.visits.forest bond }
         ensures valid { IsMarking graph.now self.new }
-        ensures forest { self.new.forest ≡ self.old.forest }
+        ensures forest { self.new.visits.forest ≡ self.old.visits.forest }
         ensures grows { Grows self.old.flags self.new.flags }
-        ensures closed { IsClosed graph.now self.new.forest self.new.flags bond }
+        ensures closed { IsClosed graph.now self.new.visits.forest self.new.flags bond }
     {
         let ends = graph.bonds()[bond];
         self.flags[bond] = true;
         let mut first = self.top_of(ends.first);
         let mut second = self.top_of(ends.second);
         while first != second {
-            if self.forest.depth[first as usize] >= self.forest.depth[second as usize] {
+            if self.visits.forest.depth[first as usize]
+                >= self.visits.forest.depth[second as usize]
+            {
                 first = self.rise(first);
             } else {
                 second = self.rise(second);
@@ -88,17 +106,17 @@ impl Marking {
 
     // Marks the bond above the place, and answers the top of its parent.
     fn rise(&mut self, place: u16) -> u16
-        requires rises { AreRises self.old.forest }
-        requires tops { AreTops self.old.forest self.old.flags self.old.tops }
+        requires rises { AreRises self.old.visits.forest }
+        requires tops { AreTops self.old.visits.forest self.old.flags self.old.tops }
         requires within { place < 1000 }
-        requires above { 0 < above_of self.old.forest place }
-        ensures forest { self.new.forest ≡ self.old.forest }
-        ensures flags { self.new.flags ≡ with_mark self.old.forest self.old.flags place }
-        ensures tops { AreTops self.new.forest self.new.flags self.new.tops }
-        ensures top { let m = self.new in IsTop m.forest m.flags (parent_of m.forest place) result }
+        requires above { 0 < above_of self.old.visits.forest place }
+        ensures forest { self.new.visits.forest ≡ self.old.visits.forest }
+        ensures flags { self.new.flags ≡ with_mark self.old.visits.forest self.old.flags place }
+        ensures tops { AreTops self.new.visits.forest self.new.flags self.new.tops }
+        ensures top { let m = self.new in IsTop m.visits.forest m.flags (parent_of m.visits.forest place) result }
     {
-        let parent = self.forest.parent[place as usize];
-        let above = self.forest.above[place as usize] as usize;
+        let parent = self.visits.forest.parent[place as usize];
+        let above = self.visits.forest.above[place as usize] as usize;
         self.flags[above - 1] = true;
         self.tops[place as usize] = parent;
         self.top_of(parent)
@@ -106,12 +124,12 @@ impl Marking {
 
     // The place furthest up over marked bonds. It halves the way for the next time.
     fn top_of(&mut self, place: u16) -> u16
-        requires tops { AreTops self.old.forest self.old.flags self.old.tops }
+        requires tops { AreTops self.old.visits.forest self.old.flags self.old.tops }
         requires within { place < 1000 }
-        ensures forest { self.new.forest ≡ self.old.forest }
+        ensures forest { self.new.visits.forest ≡ self.old.visits.forest }
         ensures flags { self.new.flags ≡ self.old.flags }
-        ensures tops { AreTops self.new.forest self.new.flags self.new.tops }
-        ensures top { IsTop self.new.forest self.new.flags place result }
+        ensures tops { AreTops self.new.visits.forest self.new.flags self.new.tops }
+        ensures top { IsTop self.new.visits.forest self.new.flags place result }
     {
         let mut at = place;
         while self.tops[at as usize] != at {
@@ -121,5 +139,26 @@ impl Marking {
             at = top;
         }
         at
+    }
+}
+
+// Makes each place up to so many atoms its own top.
+fn own_tops(tops: &mut [u16; 1000], atoms: u16)
+    requires { atoms ≤ 999 }
+    ensures { (x : ℕ) → x < 1000 → (atoms < x → slice_index tops.old x ≡ x)
+        → slice_index tops.new x ≡ x }
+{
+    for x in 0..atoms + 1 {
+        tops[x as usize] = x;
+    }
+}
+
+// Lowers the flags of so many bonds.
+fn lower_flags(flags: &mut [bool; 999], bonds: usize)
+    requires { bonds ≤ 999 }
+    ensures { (k : ℕ) → (bonds ≤ k → flag_of flags.old k ≡ false) → flag_of flags.new k ≡ false }
+{
+    for bond in 0..bonds {
+        flags[bond] = false;
     }
 }

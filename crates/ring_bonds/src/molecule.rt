@@ -2,7 +2,7 @@ ghost use Rattle.std.specs.Prelude.{◌≡◌, map};
 ghost use Rattle.htss_defs.specs.Molecule.{molecule_graph};
 ghost use Rattle.htss_defs.specs.Marked.{IsMarked, unmarked};
 
-use crate::marking::ring_flags;
+use crate::marker::RingMarker;
 use htss_defs::{Adjacency, Mol};
 
 /// Sets the flag of each bond to whether it is a ring bond. It takes no memory, and its time is
@@ -24,8 +24,6 @@ pub fn mark_linked(mol: &mut Mol, graph: &Adjacency)
     ensures atoms { mol.new.atoms ≡ mol.old.atoms }
     ensures bonds { map unmarked mol.new.bonds ≡ map unmarked mol.old.bonds }
 {
-    let flags = ring_flags(graph);
-    for bond in 0..mol.bonds().len() {
-        mol.set_ring(bond, flags[bond]);
-    }
+    let mut marker = RingMarker::new();
+    marker.mark(mol, graph);
 }

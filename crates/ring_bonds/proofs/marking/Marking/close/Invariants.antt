@@ -10,12 +10,12 @@ invariant-loop-first l =
     let ends = slice_index_or l.graph.bonds l.bond no_ends in
     record {
       valid : IsMarking l.graph l.self;
-      forest : l.self.forest ≡ l.fn.self.forest;
+      forest : l.self.visits.forest ≡ l.fn.self.visits.forest;
       grows : Grows l.fn.self.flags l.self.flags;
       size : length l.self.flags ≡ 999;
       marked : flag_of l.self.flags l.bond ≡ true;
-      closing : IsClosing l.graph l.self.forest l.self.flags l.bond ends.first ends.second l.first l.second;
+      closing : IsClosing l.graph l.self.visits.forest l.self.flags l.bond ends.first ends.second l.first l.second;
     }
 
 abbrev pub decreases-loop-first : goal.decreases-loop-first
-decreases-loop-first l = depth_of l.self.forest l.first + depth_of l.self.forest l.second
+decreases-loop-first l = depth_of l.self.visits.forest l.first + depth_of l.self.visits.forest l.second

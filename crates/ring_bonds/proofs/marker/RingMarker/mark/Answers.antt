@@ -1,6 +1,6 @@
 use Rattle.std.proofs.Common.{◌<◌, ◌≤◌, length, ap, arith}
 use Rattle.ring_bonds.proofs.Molecules.{AreSet-more, AreSet-length, IsMarked-of}
-use Rattle.ring_bonds.proofs.molecule.mark_linked.Goals as goal
+use Rattle.ring_bonds.proofs.marker.RingMarker.mark.Goals as goal
 
 pub loop-bond-preserved : goal.loop-bond-preserved
 loop-bond-preserved c =
@@ -10,4 +10,4 @@ loop-bond-preserved c =
 pub returns-clause-marked : goal.returns-clause-marked
 returns-clause-marked c =
     let all : length c.args.mol.now.bonds ≤ c.loop-bond.bond = omega (arith, ap length c.bonds-bond-end.ensures.items) in
-    IsMarked-of _ _ _ _ _ c.loop-bond.invariant all c.requires c.ring_flags-flags.ensures
+    IsMarked-of _ _ _ _ _ c.loop-bond.invariant all c.requires c.mark_all.ensures.rings
