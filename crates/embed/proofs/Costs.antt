@@ -102,16 +102,6 @@ Ledger-start q m f price entry now more low paid = record {
   most = omega (arith, tried-none q m f);
 }
 
-pub Ledger-over : (q : QueryGraph) (m : Molecule) (f : List ℕ) (price n p entry now : ℕ)
-    → Ledger q m f price n entry now → n < p → p ≤ length m.atoms → Ledger q m f price p entry now
-Ledger-over q m f price n p entry now l lt within = record {
-  more = l.more;
-  low = l.low;
-  within = within;
-  least = l.least;
-  most = omega (arith, l.most, tried-le q m f n p (omega arith));
-}
-
 pub Ledger-paid : (q : QueryGraph) (m : Molecule) (f longer : List ℕ) (price n p entry before now : ℕ)
     → Ledger q m f price n entry before → n < p → p ≤ length m.atoms → keeps_tests q m (f ++ p ∷ []) ≡ true
     → longer ≡ f ++ p ∷ [] → Paid 0 (cost q m longer) before now → Ledger q m f price p entry now

@@ -1,17 +1,19 @@
 -- The bonds of the query at its next atom are all that have to be tested.
-use Rattle.std.proofs.Common.{◌≡◌, ℕ, ◌+◌, ◌<◌, ◌⊎◌, Bool, true, false, not, max, List, length, get_or, map, eqb, sym, ap, ◌∙◌, inl, inr, arith}
+use Rattle.std.proofs.Common.{◌≡◌, ℕ, ◌+◌, ◌-◌, ◌/◌, ◌<◌, ◌≤◌, ◌⊎◌, Bool, true, false, not, max, List, length, get_or, map, eqb, sym, ap, ◌∙◌, subst, inl, inr, arith}
 use Rattle.std.specs.List.{list_all}
-use Rattle.std.proofs.lemmas.Bool.{cases_eq, ne_eqb, not_from_false, or_left}
+use Rattle.std.proofs.lemmas.Bool.{cases_eq, cases_lt, ne_eqb, not_from_false, or_left}
 use Rattle.std.proofs.lemmas.List.{get_or-map, length-map, get_or_default}
 use Rattle.std.proofs.lemmas.List.Folds.{list_all_at}
 use Rattle.std.proofs.lemmas.List.Sums.{list_all-from_AllPass}
 use Rattle.htss_defs.specs.declared.graph.Ends.{Ends}
 use Rattle.htss_defs.specs.declared.query.QueryBond.{QueryBond}
 use Rattle.htss_defs.specs.Graph.{Graph}
+use Rattle.htss_defs.specs.Adjacency.{IsLinkBefore, place_of_end}
 use Rattle.htss_defs.specs.Molecule.{Molecule}
 use Rattle.htss_defs.specs.QueryGraph.{QueryGraph, query_bond_ends, query_shape}
 use Rattle.htss_defs.proofs.Chains.{Walked, Walked-all}
 use Rattle.embed.specs.Tests.{bond_keeps, bonds_keep}
+use Rattle.embed.specs.Anchors.{IsLinkOfNext, KeepsBelow}
 
 abbrev pub no_bond : QueryBond
 no_bond = record { first = 0; second = 0; kind = 0; topology = 0; ring = false }
@@ -72,3 +74,34 @@ all-keep q m g f p link is walked end = list_all-from_AllPass (bond_keeps m f p)
       | inr before ↦ or_left (not (eqb (max b.first b.second) (length f + 1))) _
           (not_from_false _ (ne_eqb (max b.first b.second) (length f + 1) before))
     ])
+
+-- ---- along a part of the chain
+
+-- the bonds of the query at its next atom keep their tests, those of the ends from `link` on and below `from`
+pub record KeptFrom (q : QueryGraph) (g : Graph) (m : Molecule) (f : List ℕ) (p from link : ℕ) : Type 0 where
+  pub at : IsLinkOfNext g f link
+  pub known : (h : ℕ) → link ≤ h → h < from → place_of_end g.bonds h ≡ length f + 1 → KeepsAt m f p q.bonds (h / 2)
+
+pub KeptFrom-start : (q : QueryGraph) (g : Graph) (m : Molecule) (f : List ℕ) (p from : ℕ) → IsLinkOfNext g f from
+    → KeptFrom q g m f p from from
+KeptFrom-start q g m f p from at = record { at = at; known = λ h le lt same. absurd (omega arith) }
+
+pub KeptFrom-more : (q : QueryGraph) (g : Graph) (m : Molecule) (f : List ℕ) (p from link next : ℕ)
+    → KeptFrom q g m f p from link → 0 < link → KeepsAt m f p q.bonds ((link - 1) / 2)
+    → IsLinkBefore g.bonds link next → KeptFrom q g m f p from next
+KeptFrom-more q g m f p from link next k some now l =
+    let at : place_of_end g.bonds (link - 1) ≡ length f + 1 = k.at.here some in
+    record {
+      at = record { within = omega (arith, k.at.within, l.within); here = λ more. l.here more ∙ at };
+      known = λ h le lt same. elim (cases_lt h link) [
+        | inl before ↦ elim (cases_eq h (link - 1)) [
+          | inl last ↦ subst (λ (n : ℕ). KeepsAt m f p q.bonds (n / 2)) (sym last) now
+          | inr earlier ↦ absurd (l.none h le (omega arith) (same ∙ sym at))
+        ]
+        | inr after ↦ k.known h after lt same
+      ];
+    }
+
+pub KeptFrom-end : (q : QueryGraph) (g : Graph) (m : Molecule) (f : List ℕ) (p from link : ℕ)
+    → KeptFrom q g m f p from link → link ≡ 0 → KeepsBelow q g m f p from
+KeptFrom-end q g m f p from link k end h lt at = k.known h (omega arith) lt at

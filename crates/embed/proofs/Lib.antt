@@ -5,5 +5,6 @@ pub mod Lands
 pub mod Keeps
 pub mod Law
 pub mod Costs
+pub mod Sets
 pub mod Anchors
 pub mod Steps

@@ -147,6 +147,15 @@ at_place-within xs p there =
       | inr more ↦ omega (arith, slice_get-within xs (p - 1) (rw (ne_eqb p 0 more) at there))
     ]
 
+-- the next atom may stand at places of the molecule alone
+pub may-within : (q : QueryGraph) (m : Molecule) (f : List ℕ) (p : ℕ) → may_extend q m f p ≡ true → p ≤ length m.atoms
+may-within q m f p may = at_place-within m.atoms p
+    (passes-there (slice_get q.atoms (length f)) (at_place m.atoms p) (Extends-from q m f p may).atom)
+
+pub may-free : (q : QueryGraph) (m : Molecule) (f : List ℕ) (p : ℕ) → may_extend q m f p ≡ true
+    → list_any (λ x. eqb x p) f ≡ false
+may-free q m f p may = (Extends-from q m f p may).free
+
 pub within_atoms : (q : QueryGraph) (m : Molecule) (h : List ℕ) (k n : ℕ)
     → IsTrue (passes (slice_get q.atoms k) (at_place m.atoms (slice_index h k))) → length m.atoms ≤ n
     → slice_index h k ≤ n
@@ -257,11 +266,6 @@ NoneBelow-over q m f n p query more none refused = record {
         | inr above ↦ both (may-from_embedding q m f whole x query on more refl) (refused x above lt)
       ];
 }
-
-pub NoneBelow-refused : (q : QueryGraph) (m : Molecule) (f : List ℕ) (p : ℕ) → IsQuery q
-    → length f < length q.atoms → NoneBelow q m f p → may_extend q m f p ≡ false → NoneBelow q m f (p + 1)
-NoneBelow-refused q m f p query more none refused = NoneBelow-over q m f p (p + 1) query more none
-    (λ x low high. let e : x ≡ p = omega arith in ap (may_extend q m f) e ∙ refused)
 
 pub NoneBelow-stuck : (q : QueryGraph) (m : Molecule) (f longer : List ℕ) (p : ℕ) → length f < length q.atoms
     → NoneBelow q m f p → longer ≡ f ++ p ∷ [] → IsStuck q m longer → NoneBelow q m f (p + 1)

@@ -1,9 +1,13 @@
 //! The least embedding of a query in a molecule.
 #![tactic(auto)]
 
+mod anchored;
 mod candidates;
 mod extend;
 mod matcher;
+mod placed;
+mod places;
+mod plan;
 mod search;
 mod target;
 

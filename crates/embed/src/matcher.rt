@@ -4,6 +4,8 @@ ghost use Rattle.htss_defs.specs.Embedding.{IsLeastEmbedding, NoEmbedding};
 ghost use Rattle.htss_defs.specs.Cost.{cost};
 ghost use Rattle.embed.specs.Paid.{Paid};
 
+use crate::placed::Placed;
+use crate::plan::plan_of;
 use crate::search::{Found, search};
 use crate::target::Target;
 use arrayvec::ArrayVec;
@@ -15,6 +17,7 @@ use std::marker::Model;
 pub struct Matcher<'a> {
     query: &'a Query,
     asked: Adjacency,
+    plan: [u16; 64],
     // of the molecule at hand
     bonds: Adjacency,
 }
@@ -22,12 +25,14 @@ pub struct Matcher<'a> {
 impl<'a> Model for Matcher<'a> {
     ghost use Rattle.std.specs.Prelude.{◌≡◌};
     ghost use Rattle.htss_defs.specs.QueryGraph.{QueryGraph, IsQuery, query_shape};
+    ghost use Rattle.embed.specs.Anchors.{IsPlan};
 
     ghost Value = { QueryGraph };
 
     ghost view = { λ a. a.query.now };
 
-    ghost invariant = { λ a. IsQuery a.query.now × (a.asked ≡ query_shape a.query.now) };
+    ghost invariant = { λ a. IsQuery a.query.now × (a.asked ≡ query_shape a.query.now)
+        × IsPlan a.query.now a.asked a.plan };
 }
 
 impl<'a> Matcher<'a> {
@@ -37,9 +42,11 @@ impl<'a> Matcher<'a> {
     {
         let mut asked = Adjacency::new();
         query.link(&mut asked);
+        let plan = plan_of(query, &asked);
         Matcher {
             query,
             asked,
+            plan,
             bonds: Adjacency::new(),
         }
     }
@@ -57,14 +64,19 @@ impl<'a> Matcher<'a> {
         let target = Target {
             query: self.query,
             asked: &self.asked,
+            plan: &self.plan,
             mol,
             bonds: &self.bonds,
             price: 0,
         };
         map.clear();
+        let mut placed = Placed::new();
         // a search that pays nothing is never spent
-        match search(&target, &mut 0, map) {
-            Found::Yes => true,
+        match search(&target, &mut 0, &mut placed) {
+            Found::Yes => {
+                placed.write_to(map);
+                true
+            }
             Found::No => false,
             Found::Spent => unreachable!(),
         }
@@ -88,14 +100,16 @@ impl<'a> Matcher<'a> {
         let target = Target {
             query: self.query,
             asked: &self.asked,
+            plan: &self.plan,
             mol,
             bonds: &self.bonds,
             price: mol.atoms().len() as u64,
         };
         map.clear();
-        let found = search(&target, budget, map);
-        if found == Found::Spent {
-            map.clear();
+        let mut placed = Placed::new();
+        let found = search(&target, budget, &mut placed);
+        if found == Found::Yes {
+            placed.write_to(map);
         }
         found
     }

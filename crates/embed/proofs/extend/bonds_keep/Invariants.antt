@@ -1,11 +1,8 @@
-use Rattle.std.proofs.Common.{◌+◌, length}
-use Rattle.htss_defs.proofs.Chains.{Walked}
-use Rattle.embed.proofs.Keeps.{KeepsAt}
+use Rattle.embed.proofs.Keeps.{KeptFrom}
 use Rattle.embed.proofs.extend.bonds_keep.Given as goal
 
 abbrev pub invariant-loop-link : goal.invariant-loop-link
-invariant-loop-link l = Walked l.target.asked.now.bonds (length l.map + 1) l.link
-    (KeepsAt l.target.mol.now l.map l.p l.target.query.now.bonds)
+invariant-loop-link l = KeptFrom l.target.query.now l.target.asked.now l.target.mol.now l.map l.p l.from l.link
 
 abbrev pub decreases-loop-link : goal.decreases-loop-link
 decreases-loop-link l = l.link
