@@ -1,5 +1,5 @@
 -- What ties the fields of a board and a caller to what contracts see of them.
-use Rattle.std.proofs.Common.{◌≡◌, ◌≢◌, ℕ, Bool, true, false, ◌+◌, ◌*◌, ◌-◌, ◌^◌, ◌≤◌, ◌<◌, [], refl, sym, ap, ◌∙◌, subst, arith}
+use Rattle.std.proofs.Common.{◌≡◌, ◌≢◌, ℕ, Bool, true, false, ◌+◌, ◌*◌, ◌-◌, ◌^◌, ◌≤◌, ◌<◌, List, [], refl, sym, ap, ◌∙◌, subst, arith}
 use Rattle.atomic_table.specs.Seated.{TableId}
 use Rattle.htss_defs.specs.declared.shape.Shape.{Shape}
 use Rattle.htss_defs.specs.declared.shape.Field.TheVariants.{Loaders, Searchers, Pages, Log}
@@ -15,24 +15,24 @@ use Rattle.board.specs.Seated.{Place, Seated, IsOf, who_of, number_in}
 abbrev pub place : TableId → Shape → Place
 place t k = record { table = t; shape = k }
 
-abbrev pub seated : TableId → Shape → Account → Seated
-seated t k a = record { table = t; shape = k; account = a }
+abbrev pub seated : TableId → Shape → Account → List ℕ → ℕ → Seated
+seated t k a ps n = record { table = t; shape = k; account = a; stock = ps; next = n }
 
 -- ---- one table, one shape
 
-pub same_table : (t u : TableId) (k l : Shape) (a : Account) (b : Place) (c : Seated) → place u k ≡ b → seated t l a ≡ c → IsOf b c → t ≡ u
-same_table t u k l a b c e f o = ap (λ (x : Seated). x.table) f ∙ (o.table ∙ sym (ap (λ (x : Place). x.table) e))
+pub same_table : (t u : TableId) (k l : Shape) (a : Account) (ps : List ℕ) (n : ℕ) (b : Place) (c : Seated) → place u k ≡ b → seated t l a ps n ≡ c → IsOf b c → t ≡ u
+same_table t u k l a ps n b c e f o = ap (λ (x : Seated). x.table) f ∙ (o.table ∙ sym (ap (λ (x : Place). x.table) e))
 
 pub same_board : (t o u : TableId) (k : Shape) (b : Place) → place u k ≡ b → t ≡ o → o ≡ b.table → t ≡ u
 same_board t o u k b e f is = f ∙ (is ∙ sym (ap (λ (x : Place). x.table) e))
 
-pub same_shape : (t u : TableId) (k key l : Shape) (a : Account) (b : Place) (c : Seated) → place u k ≡ b → seated t l a ≡ c → key ≡ k → IsOf b c → l ≡ key
-same_shape t u k key l a b c e f same o = ap (λ (x : Seated). x.shape) f ∙ (o.shape ∙ (sym (ap (λ (x : Place). x.shape) e) ∙ sym same))
+pub same_shape : (t u : TableId) (k key l : Shape) (a : Account) (ps : List ℕ) (n : ℕ) (b : Place) (c : Seated) → place u k ≡ b → seated t l a ps n ≡ c → key ≡ k → IsOf b c → l ≡ key
+same_shape t u k key l a ps n b c e f same o = ap (λ (x : Seated). x.shape) f ∙ (o.shape ∙ (sym (ap (λ (x : Place). x.shape) e) ∙ sym same))
 
 -- ---- facts of the account and of the shape
 
-pub of_account : (F : Account → Type 0) (t : TableId) (l : Shape) (a : Account) (c : Seated) → seated t l a ≡ c → F c.account → F a
-of_account F t l a c f h = subst F (sym (ap (λ (x : Seated). x.account) f)) h
+pub of_account : (F : Account → Type 0) (t : TableId) (l : Shape) (a : Account) (ps : List ℕ) (n : ℕ) (c : Seated) → seated t l a ps n ≡ c → F c.account → F a
+of_account F t l a ps n c f h = subst F (sym (ap (λ (x : Seated). x.account) f)) h
 
 pub of_shape : (F : Shape → Type 0) (u : TableId) (k : Shape) (b : Place) → place u k ≡ b → F b.shape → F k
 of_shape F u k b e h = subst F (sym (ap (λ (x : Place). x.shape) e)) h
@@ -40,8 +40,12 @@ of_shape F u k b e h = subst F (sym (ap (λ (x : Place). x.shape) e)) h
 pub of_key : (F : Shape → Type 0) (u : TableId) (k key : Shape) (b : Place) → place u k ≡ b → key ≡ k → F b.shape → F key
 of_key F u k key b e same h = subst F (sym same) (of_shape F u k b e h)
 
-pub of_both : (F : Shape → Account → Type 0) (u t : TableId) (k key l : Shape) (a : Account) (b : Place) (c : Seated) → place u k ≡ b → seated t l a ≡ c → key ≡ k → F b.shape c.account → F key a
-of_both F u t k key l a b c e f same h = of_account (F key) t l a c f (of_key (λ (x : Shape). F x c.account) u k key b e same h)
+pub of_both : (F : Shape → Account → Type 0) (u t : TableId) (k key l : Shape) (a : Account) (ps : List ℕ) (n : ℕ) (b : Place) (c : Seated) → place u k ≡ b → seated t l a ps n ≡ c → key ≡ k → F b.shape c.account → F key a
+of_both F u t k key l a ps n b c e f same h = of_account (F key) t l a ps n c f (of_key (λ (x : Shape). F x c.account) u k key b e same h)
+
+-- a fact of what contracts see of the caller
+pub of_seated : (F : Seated → Type 0) (t : TableId) (l : Shape) (a : Account) (ps : List ℕ) (n : ℕ) (c : Seated) → seated t l a ps n ≡ c → F c → F (seated t l a ps n)
+of_seated F t l a ps n c f h = subst F (sym f) h
 
 -- ---- places of words
 

@@ -3,21 +3,29 @@
 
 mod blocks;
 mod close;
+mod epochs;
 mod notes;
 mod open;
+mod pages;
 mod places;
 mod plays;
 mod regions;
 mod seats;
 mod staged;
 mod steps;
+mod stock;
 
 pub use blocks::{load_code, load_fact, load_head, load_mark};
 pub use close::{Final, gather};
+pub use epochs::{
+    LAST_EPOCH, advance_epoch, clear_announcement, load_announcement, load_epoch,
+    store_announcement,
+};
 pub use notes::{hear, note};
 pub use open::{OpenError, open_board};
+pub use pages::{exchange_state, load_state, store_retired};
 pub use regions::{next_place, seal_block, store_ended, store_shown, store_word};
-pub use seats::{Board, Caller, Note};
+pub use seats::{Board, Caller, Note, STOCK};
 pub use staged::Staged;
 pub use steps::{
     Answers, Shown, advance_front, exchange_lock, free_lock, load_front, load_log_word,

@@ -9,6 +9,7 @@ ghost use Rattle.board.specs.Refused.{IsCause};
 
 use crate::plays::Next;
 use crate::{Board, Caller};
+use arrayvec::ArrayVec;
 use atomic_table::{Seat, Table};
 use board_core::View;
 use htss_defs::{Field, Shape};
@@ -55,6 +56,8 @@ fn make_caller(board: &Board, opener: &mut Seat<(), View>, made: u8) -> Caller
         seat,
         seen: 0,
         used: 0,
+        stock: ArrayVec::new(),
+        next: 1,
         loader,
         number,
     }

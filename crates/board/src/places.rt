@@ -2,7 +2,11 @@
 ghost use Rattle.std.specs.Prelude.{◌≡◌, ◌+◌, ◌-◌, ◌<◌, ◌≤◌, ◌^◌};
 ghost use Rattle.htss_defs.specs.Shapes.{IsShape};
 ghost use Rattle.board_core.specs.declared.account.Who.TheVariants.{Loader};
-ghost use Rattle.board_core.specs.Words.{log_at};
+ghost use Rattle.board_core.specs.Words.{log_at, states_at};
+ghost use Rattle.board_core.specs.Accounts.{seat_of};
+ghost use Rattle.board_core.specs.SeatRule.{WhoFits};
+ghost use Rattle.board_core.specs.Loaded.{IsPage};
+ghost use Rattle.board.specs.Seated.{who_of};
 ghost use Rattle.board_core.specs.Blocks.{atoms_in, block_size};
 ghost use Rattle.board_core.specs.Records.{code_word_at};
 ghost use Rattle.board_core.specs.RoomRule.{region_of};
@@ -50,4 +54,26 @@ pub(crate) fn words_in(head: u64) -> usize
     let bonds = (head >> 10) as usize % 1024;
     let bytes = (head >> 20) as usize % 128;
     3 + (bytes + 7) / 8 + atoms + 5 * atoms + bonds
+}
+
+// The place of a caller's announcement.
+pub(crate) fn announcement_place(shape: Shape, loader: bool, number: u8) -> usize
+    requires limits { IsShape shape }
+    requires who { WhoFits shape (who_of loader number) }
+    ensures { result ≡ 2 + seat_of shape (who_of loader number) }
+{
+    if loader {
+        2 + number as usize
+    } else {
+        2 + shape.loaders as usize + number as usize
+    }
+}
+
+// The place of the state of a page.
+pub(crate) fn state_place(shape: Shape, page: u32) -> usize
+    requires limits { IsShape shape }
+    requires page { IsPage shape page }
+    ensures { result ≡ states_at shape + (page - 1) }
+{
+    3 + shape.loaders as usize + shape.searchers as usize + (page as usize - 1)
 }

@@ -1,5 +1,6 @@
 // What each kind of step tells, and how seats are split and joined.
 use crate::blocks::Coded;
+use crate::pages::Paged;
 use crate::regions::{Completed, Ended, Marked};
 use crate::steps::{Answers, Shown};
 use atomic_table::{Join, Play, Split};
@@ -140,6 +141,76 @@ impl<E: Shown> Play<(), View> for ShowEvent<E> {
     ghost use Rattle.board_core.specs.Steps.{ShowsEvent};
 
     ghost then = { ShowsEvent E.event };
+}
+
+pub(crate) struct LoadEpoch;
+
+impl Play<(), View> for LoadEpoch {
+    ghost use Rattle.board_core.specs.Steps.{LoadsEpoch};
+
+    ghost then = { LoadsEpoch };
+}
+
+pub(crate) struct AdvanceEpoch;
+
+impl Play<(), View> for AdvanceEpoch {
+    ghost use Rattle.board_core.specs.Steps.{Advances};
+
+    ghost then = { Advances };
+}
+
+pub(crate) struct Pin;
+
+impl Play<(), View> for Pin {
+    ghost use Rattle.board_core.specs.Steps.{Pins};
+
+    ghost then = { Pins };
+}
+
+pub(crate) struct Unpin;
+
+impl Play<(), View> for Unpin {
+    ghost use Rattle.board_core.specs.Steps.{Unpins};
+
+    ghost then = { Unpins };
+}
+
+pub(crate) struct PassCaller;
+
+impl Play<(), View> for PassCaller {
+    ghost use Rattle.board_core.specs.Steps.{Passes};
+
+    ghost then = { Passes };
+}
+
+pub(crate) struct LoadState<P> {
+    page: PhantomData<P>,
+}
+
+impl<P: Paged> Play<(), View> for LoadState<P> {
+    ghost use Rattle.board_core.specs.Steps.{LoadsState};
+
+    ghost then = { LoadsState P.page };
+}
+
+pub(crate) struct TakePage<P> {
+    page: PhantomData<P>,
+}
+
+impl<P: Paged> Play<(), View> for TakePage<P> {
+    ghost use Rattle.board_core.specs.Steps.{TakesPage};
+
+    ghost then = { TakesPage P.page };
+}
+
+pub(crate) struct RetirePage<P> {
+    page: PhantomData<P>,
+}
+
+impl<P: Paged> Play<(), View> for RetirePage<P> {
+    ghost use Rattle.board_core.specs.Steps.{Retires};
+
+    ghost then = { Retires P.page };
 }
 
 /// A note has seen what the caller has.

@@ -3,6 +3,7 @@ ghost use Rattle.std.specs.Prelude.{◌≡◌, length};
 ghost use Rattle.htss_defs.specs.Shapes.{IsShape};
 ghost use Rattle.board.specs.Seated.{number_of, is_loader};
 
+use arrayvec::ArrayVec;
 use atomic_table::{Seat, Table};
 use board_core::{Ruled, View};
 use htss_defs::Shape;
@@ -39,13 +40,19 @@ impl Board {
     }
 }
 
-/// A caller of a board: a loader or a searcher. Contracts see its board, the shape, and its account.
+/// So many own pages a caller keeps for later.
+pub const STOCK: usize = 32;
+
+/// A caller of a board: a loader or a searcher. Contracts see its board, the shape, its account, the own pages that it keeps for
+/// later, and the page at which its next look for a page begins.
 #[derive(Drop)]
 pub struct Caller {
     pub(crate) seat: Seat<(), View>,
     pub(crate) seen: u32,
     // the words of its region that it has stored
     pub(crate) used: u32,
+    pub(crate) stock: ArrayVec<u32, STOCK>,
+    pub(crate) next: u32,
     pub(crate) loader: bool,
     pub(crate) number: u8,
 }
@@ -53,13 +60,14 @@ pub struct Caller {
 impl Model for Caller {
     ghost use Rattle.std.specs.Prelude.{◌≡◌, [], length};
     ghost use Rattle.board_core.specs.SeatRule.{WhoFits};
-    ghost use Rattle.board.specs.Seated.{Seated, who_of};
+    ghost use Rattle.board_core.specs.Loaded.{IsPage};
+    ghost use Rattle.board.specs.Seated.{Seated, IsStock, who_of};
 
     ghost Value = { Seated };
 
-    ghost view = { λ c. record { table = c.seat.table_id; shape = c.seat.me.0.shape; account = c.seat.me.0.me } };
+    ghost view = { λ c. record { table = c.seat.table_id; shape = c.seat.me.0.shape; account = c.seat.me.0.me; stock = c.stock.items; next = c.next } };
 
-    ghost invariant = { λ c. (c.seen ≡ c.seat.me.0.me.log.seen) × (c.seat.me.0.me.who ≡ who_of c.loader c.number) × (c.seat.me.0.kept ≡ []) × (c.seat.me.1 ≡ []) × (c.used ≡ length c.seat.me.0.me.room.used) × WhoFits c.seat.me.0.shape c.seat.me.0.me.who };
+    ghost invariant = { λ c. (c.seen ≡ c.seat.me.0.me.log.seen) × (c.seat.me.0.me.who ≡ who_of c.loader c.number) × (c.seat.me.0.kept ≡ []) × (c.seat.me.1 ≡ []) × (c.used ≡ length c.seat.me.0.me.room.used) × WhoFits c.seat.me.0.shape c.seat.me.0.me.who × IsStock c.seat.me.0.shape c.seat.me.0.me.pool.own c.stock.items × IsPage c.seat.me.0.shape c.next };
 }
 
 impl Caller {

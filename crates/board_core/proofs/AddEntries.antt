@@ -10,6 +10,7 @@ use Rattle.board_core.specs.Words.{Parts, parts_of}
 use Rattle.board_core.specs.Histories.{history_of}
 use Rattle.board_core.specs.Accounts.{with_me}
 use Rattle.board_core.proofs.FullFrame.{full_more}
+use Rattle.board_core.proofs.EmptyFrame.{empty_more, pool_true}
 use Rattle.board_core.specs.Holds.{Rule, Holds}
 use Rattle.board_core.specs.After.{after_answer}
 use Rattle.board_core.specs.Steps.{Mine, AreTrue, Answers}
@@ -21,12 +22,13 @@ use Rattle.board_core.proofs.Answered.{answered_stories}
 pub answer : (k : Shape) (p : Parts) (vs : List View) (id : ℕ) (v : View) (es : List Entry) → Rule k p (history_of k p) vs → get_elem? vs id ≡ some v → AreTrue k v.me es
     → Rule k p (history_of k p) (set vs id (with_me v (after_answer v.me es)))
 answer k p vs id v es r at true_all = by_log k p p (history_of k p) (history_of k p) vs id v (after_answer v.me es) r at
-    record { who = refl; pool_words = refl; page_words = refl; pool = refl; tree = refl; counts = refl }
+    record { who = refl; pool_words = refl; page_words = refl; pool = refl; tree = refl; counts = refl; epochs = refl; states = refl; lost = refl }
     record { words = refl; front = refl; slots = refl; store = refl }
     record { heads = refl; facts = refl; codes = refl; marks = refl }
     (log_same k p.log (history_of k p) vs id v (after_answer v.me es) r.log at refl)
     (answered_stories k p vs id v (after_answer v.me es) es r at true_all refl refl)
     (full_more k vs id v (after_answer v.me es) es r.full at true_all.rooms refl refl)
+    (empty_more k p.pool.states vs id v (after_answer v.me es) es r.empty at (pool_true k p.pool.states vs id v es r.pool.states at true_all.pages) refl)
     (loads_same k p.log p.log vs id v (after_answer v.me es) r.loads at (not_later p.log p.log refl refl) refl)
 
 pub answer_allowed : (k : Shape) (slots id : ℕ) (m : Mine) (es : List Entry) → AreTrue k m.0.me es → Allows (Holds k) slots id m 1 (λ n. n) (Answers es (step slots 1 0 0 none) m)

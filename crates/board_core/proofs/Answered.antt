@@ -16,8 +16,6 @@ use Rattle.board_core.specs.Histories.{history_of}
 use Rattle.board_core.specs.Accounts.{with_me, EachAccount}
 use Rattle.board_core.specs.Truths.{IsTrueLog, IsTrueStory}
 use Rattle.board_core.specs.StoryRule.{StoryRule}
-use Rattle.board_core.specs.LoadRule.{LoadFits}
-use Rattle.board_core.specs.FactRule.{BlocksStand}
 use Rattle.board_core.proofs.RecordFrame.{known_records}
 use Rattle.board_core.proofs.MarkKnown.{known_marks}
 use Rattle.board_core.specs.Holds.{Rule}
@@ -25,7 +23,6 @@ use Rattle.board_core.specs.After.{noted}
 use Rattle.board_core.specs.Steps.{Known, Agrees, AreTrue}
 use Rattle.board_core.proofs.Lists.{each_none, each_cons}
 use Rattle.board_core.proofs.Everyone.{mine, changed}
-use Rattle.board_core.proofs.LogFrame.{hand_at}
 use Rattle.board_core.proofs.StoryFrame.{before_same, story_longer}
 
 -- entries that are noted are as true as they were

@@ -12,6 +12,7 @@ use Rattle.board_core.specs.Histories.{history_of}
 use Rattle.board_core.specs.Accounts.{with_me}
 use Rattle.board_core.specs.LogRule.{hand_of, is_held, word_or_0, HandFits, LogRule}
 use Rattle.board_core.proofs.FullFrame.{full_more}
+use Rattle.board_core.proofs.EmptyFrame.{empty_more, pool_true}
 use Rattle.board_core.specs.Holds.{Rule, Holds}
 use Rattle.board_core.specs.After.{after_free}
 use Rattle.board_core.specs.Steps.{Mine, MayFree, AreTrue, Frees}
@@ -47,12 +48,13 @@ free_log k w h vs id v es r at may =
 pub free : (k : Shape) (p : Parts) (vs : List View) (id : ℕ) (v : View) (es : List Entry) → Rule k p (history_of k p) vs → get_elem? vs id ≡ some v → MayFree v.me → AreTrue k v.me es
     → Rule k (record p { log = record p.log { lock = 0 } }) (history_of k p) (set vs id (with_me v (after_free v.me es)))
 free k p vs id v es r at may true_all = by_log k p (record p { log = record p.log { lock = 0 } }) (history_of k p) (history_of k p) vs id v (after_free v.me es) r at
-    record { who = refl; pool_words = refl; page_words = refl; pool = refl; tree = refl; counts = refl }
+    record { who = refl; pool_words = refl; page_words = refl; pool = refl; tree = refl; counts = refl; epochs = refl; states = refl; lost = refl }
     record { words = refl; front = refl; slots = refl; store = refl }
     record { heads = refl; facts = refl; codes = refl; marks = refl }
     (free_log k p.log (history_of k p) vs id v es r.log at may)
     (answered_stories k p vs id v (after_free v.me es) es r at true_all refl refl)
     (full_more k vs id v (after_free v.me es) es r.full at true_all.rooms refl refl)
+    (empty_more k p.pool.states vs id v (after_free v.me es) es r.empty at (pool_true k p.pool.states vs id v es r.pool.states at true_all.pages) refl)
     (loads_same k p.log (record p.log { lock = 0 }) vs id v (after_free v.me es) r.loads at (not_later p.log (record p.log { lock = 0 }) refl refl) refl)
 
 pub free_allowed : (k : Shape) (slots id : ℕ) (m : Mine) (es : List Entry) → MayFree m.0.me → AreTrue k m.0.me es → Allows (Holds k) slots id m 1 (λ _. 0) (λ _. Frees es (step slots 1 0 0 none) m 0)

@@ -24,6 +24,9 @@ use Rattle.std.proofs.Common.{◌-◌, length}
 use Rattle.board_core.proofs.MarkSeats.{marks_gather}
 use Rattle.board_core.proofs.RecordFrame.{records_gather}
 use Rattle.board_core.proofs.FactFrame.{facts_gather}
+use Rattle.board_core.proofs.PoolSeats.{pool_gather}
+use Rattle.board_core.specs.Truths.{IsTruePool}
+use Rattle.board_core.proofs.OwnFrame.{own_gather}
 use Rattle.board_core.specs.Holds.{Rule, Holds}
 use Rattle.board_core.proofs.Lists.{each_none, each_kept}
 use Rattle.board_core.proofs.Everyone.{each_gathered, total_gathered}
@@ -67,6 +70,9 @@ gather k p h vs id other v w r at apart there =
       marks = marks_gather k p vs id other v w r.marks at apart there;
       records = records_gather k vs id other v w r.records at there;
       facts = facts_gather k p.regions p.log.front vs id other v w r.facts at apart there;
+      own = own_gather p.pages vs id other v w r.own at there;
+      pool = pool_gather k p.pool vs id other v w r.pool at apart there;
+      empty = each_gathered (λ x. Each (λ e. IsTruePool k p.pool.states e.entry) x.entries) vs id other v w at there (each_none (λ e. IsTruePool k p.pool.states e.entry)) r.empty;
       loads = each_gathered (λ x. Each (LoadFits k p.log) x.loads.shown) vs id other v w at there (each_none (LoadFits k p.log)) r.loads;
     }
 

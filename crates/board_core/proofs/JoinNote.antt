@@ -22,11 +22,15 @@ use Rattle.board_core.specs.RoomRule.{store_of, RoomFits, ShowsSealed}
 use Rattle.board_core.proofs.RoomFrame.{none_fits}
 use Rattle.board_core.proofs.Some.{some_left}
 use Rattle.board_core.proofs.FullFrame.{full_same}
+use Rattle.board_core.proofs.EmptyFrame.{empty_same}
 use Rattle.board_core.specs.Truths.{IsTrueRoom}
 use Rattle.std.proofs.Common.{◌-◌, length}
 use Rattle.board_core.proofs.MarkSeats.{marks_hear}
 use Rattle.board_core.proofs.RecordFrame.{records_note_goes}
 use Rattle.board_core.proofs.FactFrame.{facts_note_goes}
+use Rattle.board_core.proofs.PoolSeats.{pool_note_goes}
+use Rattle.board_core.specs.Truths.{IsTruePool}
+use Rattle.board_core.proofs.OwnFrame.{own_left}
 use Rattle.board_core.specs.Holds.{Rule, Holds}
 use Rattle.board_core.specs.After.{after_hear}
 use Rattle.board_core.proofs.Lists.{each_none, each_kept}
@@ -90,6 +94,9 @@ note_goes k p h vs other front w r there is =
       marks = marks_hear k p vs other front w r.marks there is;
       records = records_note_goes k vs other r.records;
       facts = facts_note_goes k p.regions p.log.front vs other front w r.facts there is;
+      own = own_left p.pages vs other r.own;
+      pool = pool_note_goes k p.pool vs other front w r.pool there is;
+      empty = each_left (λ x. Each (λ e. IsTruePool k p.pool.states e.entry) x.entries) vs other (each_none (λ e. IsTruePool k p.pool.states e.entry)) r.empty;
     }
 
 -- ---- the hearer's front
@@ -115,12 +122,13 @@ hear_log k w h vs id front v r at seen = let f = hand_at k w h vs id v r at in l
 
 pub hear : (k : Shape) (p : Parts) (h : List Event) (vs : List View) (id front : ℕ) (v : View) → Rule k p h vs → get_elem? vs id ≡ some v → front ≤ p.log.front → Rule k p h (set vs id (with_me v (after_hear v.me front)))
 hear k p h vs id front v r at seen = by_log k p p h h vs id v (after_hear v.me front) r at
-    record { who = refl; pool_words = refl; page_words = refl; pool = refl; tree = refl; counts = refl }
+    record { who = refl; pool_words = refl; page_words = refl; pool = refl; tree = refl; counts = refl; epochs = refl; states = refl; lost = refl }
     record { words = refl; front = refl; slots = refl; store = refl }
     record { heads = refl; facts = refl; codes = refl; marks = refl }
     (hear_log k p.log h vs id front v r.log at seen)
     (stories_same k h vs id v (after_hear v.me front) r.stories at refl refl)
     (full_same k vs id v (after_hear v.me front) r.full at refl refl)
+    (empty_same k p.pool.states vs id v (after_hear v.me front) r.empty at refl)
     (loads_same k p.log p.log vs id v (after_hear v.me front) r.loads at (not_later p.log p.log refl refl) refl)
 
 pub note_joins : (k : Shape) (id other front : ℕ) (v w : View) → w ≡ view w.shape (account Note front) → Joins (Holds k) id v other w (with_me v (after_hear v.me w.me.log.seen)) gone

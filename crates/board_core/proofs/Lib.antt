@@ -14,6 +14,10 @@ pub mod StoryFrame
 pub mod LoadFrame
 pub mod RoomFrame
 pub mod FullFrame
+pub mod PageSums
+pub mod PoolFrame
+pub mod EmptyFrame
+pub mod OwnFrame
 pub mod Callers
 pub mod Owner
 pub mod OneBlock
@@ -28,6 +32,7 @@ pub mod MarkStore
 pub mod MarkEvent
 pub mod MarkShow
 pub mod MarkSeats
+pub mod PoolSeats
 pub mod MarkKnown
 pub mod Answered
 pub mod Causes
@@ -44,6 +49,14 @@ pub mod LoadFront
 pub mod LoadLog
 pub mod LoadBlock
 pub mod AddEntries
+pub mod Pooled
+pub mod LoadEpoch
+pub mod AdvanceEpoch
+pub mod Announce
+pub mod PassCaller
+pub mod LoadState
+pub mod TakePage
+pub mod RetirePage
 pub mod SplitNote
 pub mod SplitCaller
 pub mod JoinNote

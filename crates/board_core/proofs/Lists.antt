@@ -3,6 +3,7 @@ use Rattle.std.proofs.Common.{◌⊎◌, inl, inr, ◌≡◌, ◌≢◌, ℕ, ze
 use mathlib.Core.Option.{some, some-injective, some-ne-none}
 use lib.ListN.{get_elem?}
 use Rattle.atomic_table.proofs.Lists.{at_set}
+pub use Rattle.atomic_table.proofs.Lists.{at_longer, at_last}
 use Rattle.board_core.specs.Each.{Each, sum_of}
 
 module _ {A : Type 0} where

@@ -25,6 +25,7 @@ use Rattle.atomic_table.proofs.Lists.{set_here}
 use Rattle.board_core.proofs.Answered.{known, agrees}
 use Rattle.board_core.proofs.Lists.{inside}
 use Rattle.board_core.proofs.FullFrame.{full_same}
+use Rattle.board_core.proofs.EmptyFrame.{empty_same}
 use Rattle.board_core.proofs.LogFrame.{log_same, hand_at}
 use Rattle.board_core.proofs.StoryFrame.{stories_same}
 use Rattle.board_core.proofs.LoadFrame.{loads_same, not_later}
@@ -34,15 +35,16 @@ use Rattle.board_core.proofs.Stored.{part_at}
 use Rattle.board_core.proofs.Stepped.{by_load, still}
 
 -- a load that no part reads but that of what was loaded of blocks
-load_of_block : (k : Shape) (p : Parts) (h : List Event) (vs : List View) (id : ℕ) (v : View) (l : Loads) → Rule k p h vs → get_elem? vs id ≡ some v → l.shown ≡ v.me.loads.shown → FactRule k p.regions p.log.front (set vs id (with_me v (record v.me { loads = l })))
+load_of_block : (k : Shape) (p : Parts) (h : List Event) (vs : List View) (id : ℕ) (v : View) (l : Loads) → Rule k p h vs → get_elem? vs id ≡ some v → l.shown ≡ v.me.loads.shown → l.epochs ≡ v.me.loads.epochs → l.states ≡ v.me.loads.states → l.lost ≡ v.me.loads.lost → FactRule k p.regions p.log.front (set vs id (with_me v (record v.me { loads = l })))
     → Rule k p h (set vs id (with_me v (record v.me { loads = l })))
-load_of_block k p h vs id v l r at same facts =
+load_of_block k p h vs id v l r at same epochs states lost facts =
     let a : Account = record v.me { loads = l } in by_load k p p h h vs id v a r at
-    record { who = refl; pool_words = refl; page_words = refl; pool = refl; tree = refl; counts = refl }
+    record { who = refl; pool_words = refl; page_words = refl; pool = refl; tree = refl; counts = refl; epochs = epochs; states = states; lost = lost }
     record { words = refl; front = refl; slots = refl; store = refl }
     (log_same k p.log h vs id v a r.log at refl)
     (stories_same k h vs id v a r.stories at refl refl)
     (full_same k vs id v a r.full at refl refl)
+    (empty_same k p.pool.states vs id v a r.empty at refl)
     (loads_same k p.log p.log vs id v a r.loads at (not_later p.log p.log refl refl) same)
     facts
 
@@ -80,7 +82,7 @@ head_allowed k slots id block m knows here s h _ at _ =
     let a : Account = after_head m.0.me block found in
     let shape = h.rule.seats.shapes id m.0 at here in
     let next : Rule k p (history_of k p) (set s.views id (with_me m.0 a)) =
-    load_of_block k p (history_of k p) s.views id m.0 a.loads h.rule at refl (subst (λ (w : ℕ). FactRule k p.regions p.log.front (set s.views id (with_me m.0 (after_head m.0.me block w)))) same facts) in (
+    load_of_block k p (history_of k p) s.views id m.0 a.loads h.rule at refl refl refl refl (subst (λ (w : ℕ). FactRule k p.regions p.log.front (set s.views id (with_me m.0 (after_head m.0.me block w)))) same facts) in (
       with_me m.0 a,
       keeps,
       tt,
@@ -105,7 +107,7 @@ mark_allowed k slots id place block m is knows s h _ at _ =
       with_me m.0 a,
       keeps,
       tt,
-      still k s place id m.1 m.0 a h (load_of_block k p (history_of k p) s.views id m.0 a.loads h.rule at refl (subst (λ (w : ℕ). FactRule k p.regions p.log.front (set s.views id (with_me m.0 (after_mark m.0.me place w)))) same facts)),
+      still k s place id m.1 m.0 a h (load_of_block k p (history_of k p) s.views id m.0 a.loads h.rule at refl refl refl refl (subst (λ (w : ℕ). FactRule k p.regions p.log.front (set s.views id (with_me m.0 (after_mark m.0.me place w)))) same facts)),
       refl,
     )
 
@@ -123,7 +125,7 @@ fact_allowed k slots id place block head i m is knows past inside_block here s h
     let facts = facts_fact k p.regions p.log s.views id block head i m.0 h.rule.facts h.rule.loads h.rule.rooms at knows inside_block (λ e. omega arith) (λ e. omega arith) in
     let a : Account = after_fact m.0.me place found in
     let next : Rule k p (history_of k p) (set s.views id (with_me m.0 a)) =
-    load_of_block k p (history_of k p) s.views id m.0 a.loads h.rule at refl
+    load_of_block k p (history_of k p) s.views id m.0 a.loads h.rule at refl refl refl refl
     (subst (λ (w : ℕ). FactRule k p.regions p.log.front (set s.views id (with_me m.0 (after_fact m.0.me place w)))) same
     (subst (λ (z : ℕ). FactRule k p.regions p.log.front (set s.views id (with_me m.0 (after_fact m.0.me z (word_at k p.regions z))))) (sym is) facts)) in (
       with_me m.0 a,
@@ -148,7 +150,7 @@ code_allowed k slots id place head code row m is knows above atom few here s h _
     let facts = facts_code k p.regions p.log s.views id head code row m.0 h.rule.facts h.rule.loads h.rule.rooms at knows above atom few in
     let a : Account = after_code m.0.me row code found in
     let next : Rule k p (history_of k p) (set s.views id (with_me m.0 a)) =
-    load_of_block k p (history_of k p) s.views id m.0 a.loads h.rule at refl
+    load_of_block k p (history_of k p) s.views id m.0 a.loads h.rule at refl refl refl refl
     (subst (λ (w : ℕ). FactRule k p.regions p.log.front (set s.views id (with_me m.0 (after_code m.0.me row code w)))) (there ∙ same) facts) in (
       with_me m.0 a,
       keeps,

@@ -14,6 +14,7 @@ use Rattle.board_core.specs.Histories.{history_of}
 use Rattle.board_core.specs.Accounts.{with_me}
 use Rattle.board_core.specs.LogRule.{Hand, hand_of, is_held, word_or_0, Holds as HoldsLock, HandFits, LogRule}
 use Rattle.board_core.proofs.FullFrame.{full_same}
+use Rattle.board_core.proofs.EmptyFrame.{empty_same}
 use Rattle.board_core.specs.Holds.{Rule, Holds}
 use Rattle.board_core.specs.After.{fronted, after_front}
 use Rattle.board_core.specs.Steps.{Mine, LoadsFront}
@@ -48,12 +49,13 @@ front_log k w h vs id v r at = let f = hand_at k w h vs id v r at in record {
 
 pub load_front : (k : Shape) (p : Parts) (h : List Event) (vs : List View) (id : ℕ) (v : View) → Rule k p h vs → get_elem? vs id ≡ some v → Rule k p h (set vs id (with_me v (after_front v.me p.log.front)))
 load_front k p h vs id v r at = by_log k p p h h vs id v (after_front v.me p.log.front) r at
-    record { who = refl; pool_words = refl; page_words = refl; pool = refl; tree = refl; counts = refl }
+    record { who = refl; pool_words = refl; page_words = refl; pool = refl; tree = refl; counts = refl; epochs = refl; states = refl; lost = refl }
     record { words = refl; front = refl; slots = refl; store = refl }
     record { heads = refl; facts = refl; codes = refl; marks = refl }
     (front_log k p.log h vs id v r.log at)
     (stories_same k h vs id v (after_front v.me p.log.front) r.stories at refl refl)
     (full_same k vs id v (after_front v.me p.log.front) r.full at refl refl)
+    (empty_same k p.pool.states vs id v (after_front v.me p.log.front) r.empty at refl)
     (loads_same k p.log p.log vs id v (after_front v.me p.log.front) r.loads at (not_later p.log p.log refl refl) refl)
 
 pub front_allowed : (k : Shape) (slots id : ℕ) (m : Mine) → m.0.me.who ≢ Gone → Allows (Holds k) slots id m 0 (λ n. n) (LoadsFront (step slots 0 0 0 none) m)

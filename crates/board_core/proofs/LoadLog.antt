@@ -13,6 +13,7 @@ use Rattle.board_core.specs.Histories.{history_of}
 use Rattle.board_core.specs.Accounts.{with_me}
 use Rattle.board_core.specs.LoadRule.{LoadFits}
 use Rattle.board_core.proofs.FullFrame.{full_same}
+use Rattle.board_core.proofs.EmptyFrame.{empty_same}
 use Rattle.board_core.specs.Holds.{Rule, Holds}
 use Rattle.board_core.specs.After.{after_shown}
 use Rattle.board_core.specs.declared.account.Who.TheVariants.{Gone}
@@ -34,12 +35,13 @@ pub load_log : (k : Shape) (p : Parts) (h : List Event) (vs : List View) (id i :
 load_log k p h vs id i v r at behind =
     let a : Account = after_shown v.me (log_at k + i) (p.log.slots i) in
     let seen = (hand_at k p.log h vs id v r.log at).seen in by_log k p p h h vs id v a r at
-    record { who = refl; pool_words = refl; page_words = refl; pool = refl; tree = refl; counts = refl }
+    record { who = refl; pool_words = refl; page_words = refl; pool = refl; tree = refl; counts = refl; epochs = refl; states = refl; lost = refl }
     record { words = refl; front = refl; slots = refl; store = refl }
     record { heads = refl; facts = refl; codes = refl; marks = refl }
     (log_same k p.log h vs id v a r.log at refl)
     (stories_same k h vs id v a r.stories at refl refl)
     (full_same k vs id v a r.full at refl refl)
+    (empty_same k p.pool.states vs id v a r.empty at refl)
     (changed (λ x. Each (LoadFits k p.log) x.loads.shown) vs id v a at
     (each_snoc (LoadFits k p.log) v.me.loads.shown record { place = log_at k + i; word = p.log.slots i; front = v.me.log.seen }
     record { seen = seen; log = λ j inside place. let e = same_place (log_at k) i j (log_at k + i) refl place in (omega arith, ap p.log.slots (sym e)) }

@@ -18,15 +18,18 @@ use Rattle.std.proofs.Common.{◌-◌, length}
 use Rattle.board_core.proofs.MarkSeats.{marks_open}
 use Rattle.board_core.proofs.RecordFrame.{records_open}
 use Rattle.board_core.proofs.FactFrame.{facts_open}
+use Rattle.board_core.proofs.PoolSeats.{OpensPool, pool_open}
+use Rattle.board_core.specs.Truths.{IsTruePool}
+use Rattle.board_core.proofs.OwnFrame.{own_open}
 use Rattle.board_core.specs.Holds.{Rule, Holds}
 use Rattle.board_core.proofs.Lists.{each_none, each_cons}
 use Rattle.board_core.proofs.LogFrame.{quiet_fits, taken_none}
-use Rattle.std.proofs.Common.{take, drop}
+use Rattle.std.proofs.Common.{take, drop, subst}
 use Rattle.std.proofs.lemmas.List.{length-replicate}
 use lib.Seq.{get_or-drop}
 use Rattle.atomic_table.specs.Table.{opening}
 use Rattle.htss_defs.specs.History.{IsLegal, Withdraws}
-use Rattle.board_core.specs.Words.{part, zeros, regions_size, opening_words}
+use Rattle.board_core.specs.Words.{from_one, states_at, part, zeros, regions_size, opening_words}
 use Rattle.board_core.specs.Accounts.{opener}
 use Rattle.board_core.proofs.Callers.{seat_none}
 use Rattle.board_core.proofs.Events.{event_within}
@@ -77,6 +80,38 @@ blank_opening k some_page =
     let all : IsBlankFrom (suc (suc (suc (count + rest)))) (opening_words k) = blank_cons (suc (suc (count + rest))) 0 (0 ∷ 1 ∷ from_callers) (blank_cons (suc (count + rest)) 0 (1 ∷ from_callers) (blank_cons (count + rest) 1 from_callers callers)) in
     blank_later (suc (suc (suc (count + rest)))) (log_at k) (opening_words k) (omega arith) all
 
+-- ---- the states of pages and the announcements
+
+take_zeros : (n i : ℕ) (ws : List ℕ) → get_or (take n (zeros n ++ ws)) i 0 ≡ 0
+take_zeros zero i ws = refl
+take_zeros (suc n) zero ws = refl
+take_zeros (suc n) (suc i) ws = take_zeros n i ws
+
+drop_zeros : (n : ℕ) (ws : List ℕ) → drop n (zeros n ++ ws) ≡ ws
+drop_zeros zero ws = refl
+drop_zeros (suc n) ws = drop_zeros n ws
+
+small_state : (n i : ℕ) (ws : List ℕ) → get_or (take (suc n) (1 ∷ (zeros n ++ ws))) i 0 ≤ 1
+small_state n zero ws = omega arith
+small_state n (suc i) ws = let none = take_zeros n i ws in omega arith
+
+small_states : (f : ℕ → ℕ) → ((i : ℕ) → f i ≤ 1) → (p : ℕ) → from_one f p ≤ 1
+small_states f small zero = omega arith
+small_states f small (suc p) = small p
+
+opens_pool : (k : Shape) → 0 < k.pages → OpensPool (parts_of k (opening_words k)).pool
+opens_pool k some_page =
+    let count : ℕ = k.loaders + k.searchers in
+    let from_root : List ℕ = 2 ∷ zeros (16 * k.pages - 1 + k.log + regions_size k) in
+    let from_states : List ℕ = 1 ∷ (zeros (k.pages - 1) ++ from_root) in
+    let there : drop (states_at k) (opening_words k) ≡ from_states = ap (λ n. drop n (opening_words k)) (let e : states_at k ≡ suc (suc (suc count)) = omega arith in e) ∙ drop_zeros count from_states in
+    let pages : k.pages ≡ suc (k.pages - 1) = omega arith in record {
+      epoch = refl;
+      announced = λ i. take_zeros count i from_states;
+      states = small_states (part (states_at k) k.pages (opening_words k)) (λ i.
+          subst (λ (x : ℕ × List ℕ). get_or (take x.0 x.1) i 0 ≤ 1) (λ t. (sym pages t, sym there t)) (small_state (k.pages - 1) i from_root));
+    }
+
 length_zeros : (n : ℕ) → length (zeros n) ≡ n
 length_zeros n = length-replicate {A = ℕ} n 0
 
@@ -101,8 +136,8 @@ no_withdrawal number target w = let within = event_within [] number (Withdraw w.
 legal_none : IsLegal []
 legal_none = record { earlier = λ number target w. absurd (no_withdrawal number target w); once = λ number other target w _. absurd (no_withdrawal number target w) }
 
-open_rule : (k : Shape) (p : Parts) → p.log.front ≡ 0 → p.log.lock ≡ 0 → ((i : ℕ) → p.log.slots i ≡ 0) → Rule k p [] (opener k ∷ [])
-open_rule k p front lock slots = record {
+open_rule : (k : Shape) (p : Parts) → p.log.front ≡ 0 → p.log.lock ≡ 0 → ((i : ℕ) → p.log.slots i ≡ 0) → OpensPool p.pool → Rule k p [] (opener k ∷ [])
+open_rule k p front lock slots pool = record {
   seats = record {
     shapes = each_cons (λ (u : View). u.me.who ≢ Gone → u.shape ≡ k) (opener k) [] (λ _. refl) (each_none (λ (u : View). u.me.who ≢ Gone → u.shape ≡ k));
     limits = only (λ x. WhoFits k x.who) k (account (Opener 0) 0) (omega arith);
@@ -132,11 +167,14 @@ open_rule k p front lock slots = record {
   marks = marks_open k p;
   records = records_open k;
   facts = facts_open k p.regions p.log.front;
+  own = own_open p.pages k;
+  pool = pool_open k p.pool pool;
+  empty = only (λ x. Each (λ e. IsTruePool k p.pool.states e.entry) x.entries) k (account (Opener 0) 0) (each_none (λ e. IsTruePool k p.pool.states e.entry));
   loads = only (λ x. Each (LoadFits k p.log) x.loads.shown) k (account (Opener 0) 0) (each_none (LoadFits k p.log));
 }
 
 pub opens : (k : Shape) → 0 < k.pages → Holds k (opening (opening_words k) [] (opener k))
 opens k some_page = record {
   wide = length_opening k some_page;
-  rule = open_rule k (parts_of k (opening_words k)) refl refl (λ i. blank_part (log_at k) k.log (opening_words k) i (blank_opening k some_page));
+  rule = open_rule k (parts_of k (opening_words k)) refl refl (λ i. blank_part (log_at k) k.log (opening_words k) i (blank_opening k some_page)) (opens_pool k some_page);
 }

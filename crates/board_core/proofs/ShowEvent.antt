@@ -30,6 +30,7 @@ use Rattle.board_core.proofs.RoomFrame.{event_told}
 use Rattle.board_core.proofs.Some.{some_changed}
 use Rattle.std.proofs.Common.{◌-◌, length}
 use Rattle.board_core.proofs.FullFrame.{full_more, event_room}
+use Rattle.board_core.proofs.EmptyFrame.{empty_more, event_pool}
 use Rattle.board_core.specs.Holds.{Rule, Holds}
 use Rattle.board_core.specs.After.{with_published, noted, after_event}
 use Rattle.board_core.specs.Steps.{Mine, MayShowEvent, ShowsEvent}
@@ -187,10 +188,11 @@ show_event k p vs id word v e r at may is =
     let by : IsByLoader k e = subst (WhoFits k) who (mine (λ x. WhoFits k x.who) vs id v at r.seats.limits) in
     let follows : MayFollow h e = subst (MayFollow h) is (may_follow k p.regions h word next.may) in
     by_region k p (record p { log = u }) h (h ++ e ∷ []) vs id v (after_event v.me e) r at
-    record { who = refl; pool_words = refl; page_words = refl; pool = refl; tree = refl; counts = refl }
+    record { who = refl; pool_words = refl; page_words = refl; pool = refl; tree = refl; counts = refl; epochs = refl; states = refl; lost = refl }
     (shown_log k p.log h vs id word v e r.log at may by follows)
     (shown_stories k h vs id v e r.seats r.stories at who by.0 (own.1 ∙ sym r.log.counted))
     (full_more k vs id v (after_event v.me e) (entry_of (v.me.log.seen + 1) e ∷ []) r.full at (event_room (k.room - length v.me.room.used) (v.me.log.seen + 1) e) (published_used v.me.log.pending.shows v.me.room) refl)
+    (empty_more k p.pool.states vs id v (after_event v.me e) (entry_of (v.me.log.seen + 1) e ∷ []) r.empty at (event_pool k p.pool.states (v.me.log.seen + 1) e) refl)
     (loads_same k p.log u vs id v (after_event v.me e) r.loads at record { front = omega arith; slots = λ i _. refl } refl)
     (shown_rooms k p.regions p.log.front p.log.slots vs id word v e r.rooms at may.logged next.there (own.0 ∙ ap (λ z. Loader z) (sym next.own)))
     (shown_marks k p vs id word v e r.marks r.seats r.log r.rooms at may)

@@ -30,6 +30,9 @@ use Rattle.std.proofs.Common.{◌-◌, length}
 use Rattle.board_core.proofs.MarkSeats.{marks_caller}
 use Rattle.board_core.proofs.RecordFrame.{records_caller}
 use Rattle.board_core.proofs.FactFrame.{facts_caller}
+use Rattle.board_core.proofs.PoolSeats.{pool_caller}
+use Rattle.board_core.specs.Truths.{IsTruePool}
+use Rattle.board_core.proofs.OwnFrame.{own_caller}
 use Rattle.board_core.specs.Holds.{Rule, Holds}
 use Rattle.board_core.proofs.Lists.{each_none, each_kept, each_snoc}
 use Rattle.board_core.proofs.Everyone.{mine, changed, total_changed, each_more, total_more}
@@ -146,6 +149,10 @@ caller k p h vs id m v r at is shape room = record {
   marks = marks_caller k p vs id m v r.marks at;
   records = records_caller k vs id m v r.records at is;
   facts = facts_caller k p.regions p.log.front vs id m v r.facts at;
+  own = own_caller p.pages k vs id m v r.own at;
+  pool = pool_caller k p.pool vs id m v r.seats r.pool at is;
+  empty = each_more (λ x. Each (λ e. IsTruePool k p.pool.states e.entry) x.entries) (set vs id (left_of v)) (account (caller_after k m) 0) (right_of k m) refl refl (each_none (λ e. IsTruePool k p.pool.states e.entry))
+      (changed (λ x. Each (λ e. IsTruePool k p.pool.states e.entry) x.entries) vs id v (after_made v.me) at (mine (λ x. Each (λ e. IsTruePool k p.pool.states e.entry) x.entries) vs id v at r.empty) r.empty);
 }
 
 not_gone : {m : ℕ} → Opener m ≡ Gone → ⊥

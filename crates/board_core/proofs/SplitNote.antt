@@ -27,6 +27,9 @@ use Rattle.std.proofs.Common.{◌-◌, length}
 use Rattle.board_core.proofs.MarkSeats.{marks_note}
 use Rattle.board_core.proofs.RecordFrame.{records_note}
 use Rattle.board_core.proofs.FactFrame.{facts_note}
+use Rattle.board_core.proofs.PoolSeats.{pool_note}
+use Rattle.board_core.specs.Truths.{IsTruePool}
+use Rattle.board_core.proofs.OwnFrame.{own_note}
 use Rattle.board_core.specs.Holds.{Rule, Holds}
 use Rattle.board_core.proofs.Lists.{each_none, each_snoc}
 use Rattle.board_core.proofs.Everyone.{each_more, total_more}
@@ -85,6 +88,9 @@ note k p h vs id v r at here =
       marks = marks_note k p vs v r.marks;
       records = records_note k vs v.shape front r.records;
       facts = facts_note k p.regions p.log.front vs v.shape front r.facts;
+      own = own_note p.pages vs v.shape front r.own;
+      pool = pool_note k p.pool vs v.shape front r.pool;
+      empty = each_more (λ x. Each (λ e. IsTruePool k p.pool.states e.entry) x.entries) vs (account Note front) n refl refl (each_none (λ e. IsTruePool k p.pool.states e.entry)) r.empty;
     }
 
 pub note_splits : (k : Shape) (id : ℕ) (v : View) → v.me.who ≢ Gone → Splits (Holds k) id v v (view v.shape (account Note v.me.log.seen))

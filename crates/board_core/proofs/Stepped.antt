@@ -15,6 +15,12 @@ use Rattle.board_core.specs.LogRule.{LogRule}
 use Rattle.board_core.specs.StoryRule.{StoryRule}
 use Rattle.board_core.specs.LoadRule.{LoadRule}
 use Rattle.board_core.specs.FullRule.{FullRule}
+use Rattle.board_core.specs.EmptyRule.{EmptyRule}
+use Rattle.board_core.specs.PoolRule.{PoolRule}
+use Rattle.board_core.specs.Held.{held_in}
+use Rattle.board_core.specs.declared.tree.TreeAccount.{TreeAccount}
+use Rattle.board_core.specs.Words.{PoolWords}
+use Rattle.board_core.proofs.PoolFrame.{pool_same}
 use Rattle.board_core.specs.RoomRule.{store_of, RoomRule}
 use Rattle.board_core.specs.MarkRule.{MarkRule}
 use Rattle.board_core.specs.RecordRule.{RecordRule}
@@ -24,6 +30,9 @@ use Rattle.board_core.proofs.RoomFrame.{rooms_same}
 use Rattle.board_core.proofs.MarkFrame.{marks_same}
 use Rattle.board_core.proofs.RecordFrame.{records_same}
 use Rattle.board_core.proofs.FactFrame.{SameLoads, facts_same}
+use Rattle.board_core.specs.OwnRule.{OwnRule}
+use Rattle.board_core.specs.declared.pool.PoolAccount.{PoolAccount}
+use Rattle.board_core.proofs.OwnFrame.{own_same}
 use Rattle.board_core.specs.Holds.{Rule, Holds}
 use Rattle.board_core.proofs.SeatFrame.{seats_same}
 
@@ -38,6 +47,9 @@ pub record LeavesRest (p q : Parts) (a b : Account) : Type 0 where
   pub pool : b.pool ≡ a.pool
   pub tree : b.tree ≡ a.tree
   pub counts : b.counts ≡ a.counts
+  pub epochs : b.loads.epochs ≡ a.loads.epochs
+  pub states : b.loads.states ≡ a.loads.states
+  pub lost : b.loads.lost ≡ a.loads.lost
 
 -- and the words of the regions and the log but for the lock, and what is known of them
 pub record LeavesRegions (p q : Parts) (a b : Account) : Type 0 where
@@ -48,9 +60,9 @@ pub record LeavesRegions (p q : Parts) (a b : Account) : Type 0 where
 
 -- a step of the log that changes the regions or what is known of them. Parts of the pool, the tree and the counts are framed here
 pub by_region : (k : Shape) (p q : Parts) (h g : List Event) (vs : List View) (id : ℕ) (v : View) (a : Account) → Rule k p h vs → get_elem? vs id ≡ some v → LeavesRest p q v.me a
-    → LogRule k q.log g (set vs id (with_me v a)) → StoryRule k g (set vs id (with_me v a)) → FullRule k (set vs id (with_me v a)) → LoadRule k q.log (set vs id (with_me v a)) → RoomRule k q.regions q.log.front q.log.slots (set vs id (with_me v a))
+    → LogRule k q.log g (set vs id (with_me v a)) → StoryRule k g (set vs id (with_me v a)) → FullRule k (set vs id (with_me v a)) → EmptyRule k q.pool.states (set vs id (with_me v a)) → LoadRule k q.log (set vs id (with_me v a)) → RoomRule k q.regions q.log.front q.log.slots (set vs id (with_me v a))
     → MarkRule k q.regions q.log.front q.log.slots (set vs id (with_me v a)) → RecordRule k (set vs id (with_me v a)) → FactRule k q.regions q.log.front (set vs id (with_me v a)) → Rule k q g (set vs id (with_me v a))
-by_region k p q h g vs id v a r at rest log stories full loads rooms marks records facts = record {
+by_region k p q h g vs id v a r at rest log stories full empty loads rooms marks records facts = record {
   seats = seats_same k vs id v a r.seats at rest.who;
   log = log;
   stories = stories;
@@ -60,14 +72,18 @@ by_region k p q h g vs id v a r at rest log stories full loads rooms marks recor
   marks = marks;
   records = records;
   facts = facts;
+  pool = subst (λ (w : PoolWords). PoolRule k w (set vs id (with_me v a))) (sym rest.pool_words)
+      (pool_same k p.pool vs id v a r.pool at rest.who rest.pool (ap (λ (t : TreeAccount). held_in t.reached) rest.tree) rest.epochs rest.states rest.lost);
+  own = subst (λ (w : ℕ → ℕ → ℕ). OwnRule w (set vs id (with_me v a))) (sym rest.page_words) (own_same p.pages vs id v a r.own at (ap (λ (x : PoolAccount). x.own) rest.pool));
+  empty = empty;
 }
 
 -- a step of the log alone. Parts of the regions are framed here, but what was loaded of blocks
 pub by_load : (k : Shape) (p q : Parts) (h g : List Event) (vs : List View) (id : ℕ) (v : View) (a : Account) → Rule k p h vs → get_elem? vs id ≡ some v → LeavesRest p q v.me a → LeavesRegions p q v.me a
-    → LogRule k q.log g (set vs id (with_me v a)) → StoryRule k g (set vs id (with_me v a)) → FullRule k (set vs id (with_me v a)) → LoadRule k q.log (set vs id (with_me v a)) → FactRule k q.regions q.log.front (set vs id (with_me v a)) → Rule k q g (set vs id (with_me v a))
-by_load k p q h g vs id v a r at rest regions log stories full loads facts =
+    → LogRule k q.log g (set vs id (with_me v a)) → StoryRule k g (set vs id (with_me v a)) → FullRule k (set vs id (with_me v a)) → EmptyRule k q.pool.states (set vs id (with_me v a)) → LoadRule k q.log (set vs id (with_me v a)) → FactRule k q.regions q.log.front (set vs id (with_me v a)) → Rule k q g (set vs id (with_me v a))
+by_load k p q h g vs id v a r at rest regions log stories full empty loads facts =
     let move : (F : (ℕ → ℕ) → ℕ → (ℕ → ℕ) → Type 0) → F p.regions p.log.front p.log.slots → F q.regions q.log.front q.log.slots = λ F t. subst (λ (x : (ℕ → ℕ) × ℕ × (ℕ → ℕ)). F x.0 x.1 x.2) (λ i. (sym regions.words i, sym regions.front i, sym regions.slots i)) t in
-    by_region k p q h g vs id v a r at rest log stories full loads
+    by_region k p q h g vs id v a r at rest log stories full empty loads
     (move (λ x y z. RoomRule k x y z (set vs id (with_me v a))) (rooms_same k p.regions p.log.front p.log.slots vs id v a r.rooms at regions.store))
     (move (λ x y z. MarkRule k x y z (set vs id (with_me v a))) (marks_same k p.regions p.log.front p.log.slots vs id v a r.marks at regions.store))
     (records_same k vs id v a r.records at rest.who (ap (λ (x : Store). x.room.used) regions.store) (ap (λ (x : Store). x.room.sealed) regions.store))
@@ -75,8 +91,8 @@ by_load k p q h g vs id v a r at rest regions log stories full loads facts =
 
 -- a step of the log that loads nothing of blocks
 pub by_log : (k : Shape) (p q : Parts) (h g : List Event) (vs : List View) (id : ℕ) (v : View) (a : Account) → Rule k p h vs → get_elem? vs id ≡ some v → LeavesRest p q v.me a → LeavesRegions p q v.me a → SameLoads a.loads v.me.loads
-    → LogRule k q.log g (set vs id (with_me v a)) → StoryRule k g (set vs id (with_me v a)) → FullRule k (set vs id (with_me v a)) → LoadRule k q.log (set vs id (with_me v a)) → Rule k q g (set vs id (with_me v a))
-by_log k p q h g vs id v a r at rest regions alike log stories full loads = by_load k p q h g vs id v a r at rest regions log stories full loads
+    → LogRule k q.log g (set vs id (with_me v a)) → StoryRule k g (set vs id (with_me v a)) → FullRule k (set vs id (with_me v a)) → EmptyRule k q.pool.states (set vs id (with_me v a)) → LoadRule k q.log (set vs id (with_me v a)) → Rule k q g (set vs id (with_me v a))
+by_log k p q h g vs id v a r at rest regions alike log stories full empty loads = by_load k p q h g vs id v a r at rest regions log stories full empty loads
     (subst (λ (x : (ℕ → ℕ) × ℕ). FactRule k x.0 x.1 (set vs id (with_me v a))) (λ i. (sym regions.words i, sym regions.front i))
     (facts_same k p.regions p.log.front p.log.front vs id v a r.facts at (ap (λ (x : Store). x.room.sealed) regions.store) alike (omega arith)))
 

@@ -17,6 +17,7 @@ use Rattle.board_core.specs.LogRule.{Hand, hand_of, is_held, word_or_0, Holds as
 use Rattle.board_core.specs.RoomRule.{store_of, IsSealed, RoomFits, SomeAccount, ShowsSealed, RoomRule}
 use Rattle.board_core.proofs.Some.{some_changed}
 use Rattle.board_core.proofs.FullFrame.{full_same}
+use Rattle.board_core.proofs.EmptyFrame.{empty_same}
 use Rattle.board_core.specs.Holds.{Rule, Holds}
 use Rattle.board_core.specs.After.{after_logged}
 use Rattle.board_core.specs.Steps.{Mine, IsPublicationOf, IsWithdrawalOf, MayLog, Logs}
@@ -121,10 +122,11 @@ pub store_event : (k : Shape) (p : Parts) (h : List Event) (vs : List View) (id 
     → Rule k (record p { log = record p.log { slots = stored p.log.slots p.log.front word } }) h (set vs id (with_me v (after_logged v.me word)))
 store_event k p h vs id loader word v r at may =
     let u : LogWords = record p.log { slots = stored p.log.slots p.log.front word } in by_region k p (record p { log = u }) h h vs id v (after_logged v.me word) r at
-    record { who = refl; pool_words = refl; page_words = refl; pool = refl; tree = refl; counts = refl }
+    record { who = refl; pool_words = refl; page_words = refl; pool = refl; tree = refl; counts = refl; epochs = refl; states = refl; lost = refl }
     (event_log k p.log h vs id loader word v r.log at may)
     (stories_same k h vs id v (after_logged v.me word) r.stories at refl refl)
     (full_same k vs id v (after_logged v.me word) r.full at refl refl)
+    (empty_same k p.pool.states vs id v (after_logged v.me word) r.empty at refl)
     (loads_same k p.log u vs id v (after_logged v.me word) r.loads at record { front = omega arith; slots = λ i behind. stored_else p.log.slots p.log.front word i (λ e. omega arith) } refl)
     (event_rooms k p.regions p.log.front p.log.slots vs id word v r.rooms at (pending_sealed k p.regions v.me loader word may.small (mine (λ x. RoomFits k p.regions (store_of x)) vs id v at r.rooms.rooms) may.kind))
     (event_marks k p.regions p.log.front p.log.slots vs id loader word v r.marks at may)

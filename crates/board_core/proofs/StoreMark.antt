@@ -17,6 +17,7 @@ use Rattle.board_core.specs.Accounts.{with_me}
 use Rattle.board_core.specs.LogRule.{hand_of, is_held, word_or_0, Holds as HoldsLock, HandFits, LogRule}
 use Rattle.board_core.specs.LoadRule.{LoadFits}
 use Rattle.board_core.proofs.FullFrame.{full_same}
+use Rattle.board_core.proofs.EmptyFrame.{empty_same}
 use Rattle.board_core.specs.Holds.{Rule, Holds}
 use Rattle.board_core.specs.After.{after_shows, after_ends}
 use Rattle.board_core.specs.Steps.{Mine, MayMark, MayPublish, MayEnd, Shows, Ends}
@@ -134,10 +135,11 @@ shows k p vs id block i n v r at may place number =
     let new = marked k p vs v.me i n r own (sealed.0, sealed.1, sealed.2, inl (place ∙ ap (λ z. z + 1) (sym sealed.3))) (omega arith) (mark_word k p.regions p.log.front block shown_at i place (first_not_told k p vs id block v r.marks at may)) in
     subst (λ (g : List Event). Rule k q g (set vs id (with_me v a))) (sym new.same)
     (by_region k p q h h vs id v a r at
-    record { who = refl; pool_words = refl; page_words = refl; pool = refl; tree = refl; counts = refl }
+    record { who = refl; pool_words = refl; page_words = refl; pool = refl; tree = refl; counts = refl; epochs = refl; states = refl; lost = refl }
     (shows_log k p.log h vs id block v r.log at may.may)
     (stories_same k h vs id v a r.stories at refl refl)
     (full_same k vs id v a r.full at refl refl)
+    (empty_same k p.pool.states vs id v a r.empty at refl)
     (loads_same k p.log p.log vs id v a r.loads at (not_later p.log p.log refl refl) refl)
     (shows_rooms k q.regions p.log.front p.log.slots vs id block v new.rooms at sealed)
     (shows_marks k p vs id block i n v r.marks r.seats r.log r.rooms at may place number)
@@ -158,10 +160,11 @@ ends k p vs id i n v e r at may place number =
     let new = marked k p vs b i n r owner_is (sealed.0, sealed.1, sealed.2, inr (place ∙ ap (λ z. z + 2) (sym sealed.3))) (omega arith) (mark_word k p.regions p.log.front e.block ended_at i place (last_not_told k p vs id v e r.log stand at may)) in
     subst (λ (g : List Event). Rule k q g (set vs id (with_me v a))) (sym new.same)
     (by_region k p q h h vs id v a r at
-    record { who = refl; pool_words = refl; page_words = refl; pool = refl; tree = refl; counts = refl }
+    record { who = refl; pool_words = refl; page_words = refl; pool = refl; tree = refl; counts = refl; epochs = refl; states = refl; lost = refl }
     (ends_log k p.log h vs id v e r.log at may.may (ends_open k p vs id v e r.marks r.seats r.log r.rooms r.loads stand at may))
     (stories_same k h vs id v a r.stories at refl refl)
     (full_same k vs id v a r.full at refl refl)
+    (empty_same k p.pool.states vs id v a r.empty at refl)
     (loads_same k p.log p.log vs id v a r.loads at (not_later p.log p.log refl refl) refl)
     (ends_rooms k q.regions p.log.front p.log.slots vs id v e new.rooms at)
     (ends_marks k p vs id i n v e r.marks r.seats r.log r.rooms r.loads stand at may place number)

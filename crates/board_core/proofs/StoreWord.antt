@@ -15,6 +15,7 @@ use Rattle.board_core.specs.Histories.{history_of}
 use Rattle.board_core.specs.Accounts.{with_me}
 use Rattle.board_core.specs.SeatRule.{WhoFits}
 use Rattle.board_core.proofs.FullFrame.{full_later}
+use Rattle.board_core.proofs.EmptyFrame.{empty_same}
 use Rattle.board_core.specs.Holds.{Rule, Holds}
 use Rattle.board_core.specs.Steps.{Mine}
 use Rattle.board_core.proofs.Lists.{each_none, each_cons}
@@ -46,10 +47,11 @@ store_word k p vs id loader word v more r at may adds seals =
     let q : Parts = record p { regions = stored p.regions (next_at k v.me) word } in
     subst (λ (g : List Event). Rule k q g (set vs id (with_me v a))) (sym (history_kept k p q.regions vs r.rooms (word_same k p.regions vs id loader word v r.seats r.rooms.rooms at may)))
     (by_region k p q h h vs id v a r at
-    record { who = refl; pool_words = refl; page_words = refl; pool = refl; tree = refl; counts = refl }
+    record { who = refl; pool_words = refl; page_words = refl; pool = refl; tree = refl; counts = refl; epochs = refl; states = refl; lost = refl }
     (log_same k p.log h vs id v a r.log at refl)
     (stories_same k h vs id v a r.stories at refl refl)
     (full_later k vs id v a r.full at (let longer = length_push v.me.room.used word in omega arith) refl)
+    (empty_same k p.pool.states vs id v a r.empty at refl)
     (loads_same k p.log p.log vs id v a r.loads at (not_later p.log p.log refl refl) refl)
     (word_rooms k p.regions p.log.front p.log.slots vs id loader word v more r.seats r.rooms at may adds)
     (word_marks k p.regions p.log.front p.log.slots vs id loader word v more r.marks r.seats r.rooms at may seals)

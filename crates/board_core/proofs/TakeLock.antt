@@ -21,6 +21,7 @@ use Rattle.board_core.specs.Accounts.{nothing, with_me, total, IsOther}
 use Rattle.board_core.specs.SeatRule.{WhoFits}
 use Rattle.board_core.specs.LogRule.{Hand, hand_of, is_held, word_or_0, Holds as HoldsLock, HandFits, LogRule}
 use Rattle.board_core.proofs.FullFrame.{full_same}
+use Rattle.board_core.proofs.EmptyFrame.{empty_same}
 use Rattle.board_core.specs.Holds.{Rule, Holds}
 use Rattle.board_core.specs.After.{after_take}
 use Rattle.board_core.specs.Steps.{Mine, MayTake, Takes}
@@ -69,12 +70,13 @@ loader_above k who c is f = (subst (WhoFits k) is f).0
 pub take : (k : Shape) (p : Parts) (h : List Event) (vs : List View) (id c : ℕ) (v : View) → Rule k p h vs → get_elem? vs id ≡ some v → v.me.who ≡ Loader c → MayTake v.me → p.log.lock ≡ 0
     → Rule k (record p { log = record p.log { lock = c } }) h (set vs id (with_me v (after_take v.me)))
 take k p h vs id c v r at who may free = by_log k p (record p { log = record p.log { lock = c } }) h h vs id v (after_take v.me) r at
-    record { who = refl; pool_words = refl; page_words = refl; pool = refl; tree = refl; counts = refl }
+    record { who = refl; pool_words = refl; page_words = refl; pool = refl; tree = refl; counts = refl; epochs = refl; states = refl; lost = refl }
     record { words = refl; front = refl; slots = refl; store = refl }
     record { heads = refl; facts = refl; codes = refl; marks = refl }
     (take_log k p.log h vs id c v r.log at who (loader_above k v.me.who c who (mine (λ x. WhoFits k x.who) vs id v at r.seats.limits)) may free)
     (stories_same k h vs id v (after_take v.me) r.stories at refl refl)
     (full_same k vs id v (after_take v.me) r.full at refl refl)
+    (empty_same k p.pool.states vs id v (after_take v.me) r.empty at refl)
     (loads_same k p.log (record p.log { lock = c }) vs id v (after_take v.me) r.loads at (not_later p.log (record p.log { lock = c }) refl refl) refl)
 
 pub take_allowed : (k : Shape) (slots id c : ℕ) (m : Mine) → m.0.me.who ≡ Loader c → MayTake m.0.me → Allows (Holds k) slots id m 1 (λ n. either (n == 0) c n) (Takes (step slots 1 0 c none) m)

@@ -22,7 +22,7 @@ account who seen = record {
   who = who;
   log = record { seen = seen; holding = Away; pending = nothing };
   room = record { used = []; sealed = []; published = [] };
-  pool = record { announced = 0; first = 0; low = 0; passed = 0; own = []; parted = [] };
+  pool = record { announced = 0; risen = 0; first = 0; low = 0; passed = 0; own = []; parted = [] };
   tree = record { front = 0; reached = []; begun = []; placed = [] };
   counts = record { inserted = 0; fresh = 0; linked = 0 };
   loads = no_loads;

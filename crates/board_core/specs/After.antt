@@ -1,5 +1,5 @@
 -- The account after each kind of step.
-use Rattle.std.specs.Prelude.{ℕ, ◌+◌, List, [], ◌∷◌, ◌++◌, map, length, max, Option, Some, None}
+use Rattle.std.specs.Prelude.{ℕ, ◌+◌, ◌==◌, false, List, [], ◌∷◌, ◌++◌, map, length, max, min, Option, Some, None, if◌then◌else◌}
 use Rattle.htss_defs.specs.declared.history.Event.{Event}
 use Rattle.board_core.specs.declared.account.Account.{Account}
 use Rattle.board_core.specs.declared.log.Holding.{Holding}
@@ -8,6 +8,10 @@ use Rattle.board_core.specs.declared.log.Ending.{Ending}
 use Rattle.board_core.specs.declared.room.RoomAccount.{RoomAccount}
 use Rattle.board_core.specs.declared.room.Row.{Row}
 use Rattle.board_core.specs.declared.room.Sealed.{Sealed}
+use Rattle.board_core.specs.declared.pool.Parted.{Parted}
+use Rattle.board_core.specs.declared.tree.Way.TheVariants.{More}
+use Rattle.board_core.specs.declared.tree.Link.TheVariants.{Unread}
+use Rattle.board_core.specs.declared.tree.Reached.{Reached}
 use Rattle.board_core.specs.declared.loads.Loads.{Loads}
 use Rattle.board_core.specs.declared.loads.Lengths.{Lengths}
 use Rattle.board_core.specs.declared.entry.Entry.{Entry}
@@ -110,3 +114,67 @@ after_mark a place word = record a { loads = record a.loads { marks = a.loads.ma
 
 abbrev pub after_fact : Account → ℕ → ℕ → Account
 after_fact a place word = record a { loads = record a.loads { facts = a.loads.facts ++ record { place = place; word = word } ∷ [] } }
+
+-- ---- pages and epochs
+
+-- an unlinked page without a stamp has this one
+abbrev pub stamp : ℕ → Parted → Parted
+stamp e u = record { page = u.page; stamp = if u.stamp == 0 then e else u.stamp }
+
+abbrev pub stamp_all : ℕ → List Parted → List Parted
+stamp_all e [] = []
+stamp_all e (u ∷ us) = stamp e u ∷ stamp_all e us
+
+-- the epoch was loaded: a scan of announcements begins, and unlinked pages have their stamps
+abbrev pub after_epoch : Account → ℕ → Account
+after_epoch a e = record a {
+  pool = record a.pool { first = e; low = e; passed = 0; parted = stamp_all e a.pool.parted };
+  loads = record a.loads { epochs = a.loads.epochs ++ e ∷ [] };
+}
+
+-- the epoch after this one has come
+abbrev pub after_advance : Account → ℕ → Account
+after_advance a e = record a { pool = record a.pool { risen = e + 1 } }
+
+-- the root, as a pin reaches it
+abbrev pub root : Reached
+root = record { page = 1; from = 0; way = More; path = []; rank = 0; leaf = false; slots = []; zero = false; links = []; more = Unread }
+
+-- an epoch is announced, and the announcement is taken back
+abbrev pub after_pin : Account → ℕ → Account
+after_pin a e = record a { pool = record a.pool { announced = e }; tree = record a.tree { front = a.log.seen; reached = root ∷ [] } }
+
+abbrev pub after_unpin : Account → Account
+after_unpin a = record a { pool = record a.pool { announced = 0 }; tree = record a.tree { reached = [] } }
+
+-- an announcement was loaded: the scan has passed one caller more
+abbrev pub lower : ℕ → ℕ → ℕ
+lower low n = if n == 0 then low else min low n
+
+abbrev pub after_pass : Account → ℕ → Account
+after_pass a n = record a {
+  pool = record a.pool { low = lower a.pool.low n; passed = a.pool.passed + 1 };
+  loads = record a.loads { announcements = a.loads.announcements ++ n ∷ [] };
+}
+
+-- the state of a page was loaded; it was found changed by another
+abbrev pub after_state : Account → ℕ → ℕ → Account
+after_state a p n = record a { loads = record a.loads { states = a.loads.states ++ record { page = p; word = n } ∷ [] } }
+
+abbrev pub after_lost : Account → ℕ → ℕ → Account
+after_lost a p n = record a { loads = record a.loads { lost = a.loads.lost ++ record { page = p; word = n } ∷ [] } }
+
+-- a page was taken, and nothing stored in it yet
+abbrev pub after_page : Account → ℕ → Account
+after_page a p = record a { pool = record a.pool { own = record { page = p; words = [] } ∷ a.pool.own } }
+
+-- a page is retired
+abbrev pub keep_unless : {A : Type 0} → ℕ → ℕ → A → List A → List A
+keep_unless p q x xs = if p == q then xs else x ∷ xs
+
+abbrev pub without : {A : Type 0} → (A → ℕ) → ℕ → List A → List A
+without page p [] = []
+without page p (x ∷ xs) = keep_unless p (page x) x (without page p xs)
+
+abbrev pub after_retire : Account → ℕ → Account
+after_retire a p = record a { pool = record a.pool { own = without (λ o. o.page) p a.pool.own; parted = without (λ u. u.page) p a.pool.parted } }

@@ -15,6 +15,9 @@ use Rattle.board_core.specs.FullRule.{FullRule}
 use Rattle.board_core.specs.MarkRule.{MarkRule}
 use Rattle.board_core.specs.RecordRule.{RecordRule}
 use Rattle.board_core.specs.FactRule.{FactRule}
+use Rattle.board_core.specs.PoolRule.{PoolRule}
+use Rattle.board_core.specs.OwnRule.{OwnRule}
+use Rattle.board_core.specs.EmptyRule.{EmptyRule}
 
 -- the parts, over the words by group, the history that they show, and all views
 pub record Rule (k : Shape) (p : Parts) (history : List Event) (vs : List View) : Type 0 where
@@ -27,6 +30,9 @@ pub record Rule (k : Shape) (p : Parts) (history : List Event) (vs : List View) 
   pub marks : MarkRule k p.regions p.log.front p.log.slots vs
   pub records : RecordRule k vs
   pub facts : FactRule k p.regions p.log.front vs
+  pub pool : PoolRule k p.pool vs
+  pub own : OwnRule p.pages vs
+  pub empty : EmptyRule k p.pool.states vs
 
 pub record Holds (k : Shape) (s : State (Unit {0}) View) : Type 0 where
   pub wide : length s.words ≡ total_of k

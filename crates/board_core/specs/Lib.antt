@@ -15,6 +15,16 @@ pub mod Records
 pub mod RecordRule
 pub mod MarkRule
 pub mod FactRule
+pub mod Held
+pub mod Sheets
+pub mod EpochRule
+pub mod PageRule
+pub mod HeldRule
+pub mod ScanRule
+pub mod StateRule
+pub mod PoolRule
+pub mod OwnRule
+pub mod EmptyRule
 pub mod Loaded
 pub mod After
 pub mod Holds

@@ -6,6 +6,8 @@ use Rattle.htss_defs.specs.declared.shape.Shape.{Shape}
 use Rattle.board_core.specs.declared.account.Account.{Account}
 use Rattle.board_core.specs.declared.loads.ShownLoad.{ShownLoad}
 use Rattle.board_core.specs.declared.loads.WordLoad.{WordLoad}
+use Rattle.board_core.specs.declared.loads.StateLoad.{StateLoad}
+use Rattle.board_core.specs.Sheets.{owns, parts, stamps}
 use Rattle.board_core.specs.Words.{log_at, regions_at, total_of}
 use Rattle.board_core.specs.LogWord.{kind_in, target_in}
 use Rattle.board_core.specs.declared.loads.CodeLoad.{CodeLoad}
@@ -91,3 +93,24 @@ pub record Grows (a b : Account) : Type 0 where
   pub marks : (j : ℕ) (x : ShownLoad) → get_elem? a.loads.marks j ≡ some x → get_elem? b.loads.marks j ≡ some x
   pub facts : (j : ℕ) (x : WordLoad) → get_elem? a.loads.facts j ≡ some x → get_elem? b.loads.facts j ≡ some x
   pub codes : (j : ℕ) (x : CodeLoad) → get_elem? a.loads.codes j ≡ some x → get_elem? b.loads.codes j ≡ some x
+
+-- ---- pages and epochs
+
+-- pages count from 1
+abbrev pub IsPage : Shape → ℕ → Type 0
+IsPage k p = (0 < p) × (p ≤ k.pages)
+
+abbrev pub HasEpoch : Account → ℕ → Type 0
+HasEpoch a e = (j : ℕ) × (get_elem? a.loads.epochs j ≡ some e)
+
+-- the state of this page was loaded as this word
+abbrev pub HasState : Account → ℕ → ℕ → Type 0
+HasState a p n = (j : ℕ) × (l : StateLoad) × (get_elem? a.loads.states j ≡ some l) × (l.page ≡ p) × (l.word ≡ n)
+
+-- the page is unlinked, and this stamp was loaded for it
+abbrev pub HasParted : Account → ℕ → ℕ → Type 0
+HasParted a p n = (0 < n) × (0 < parts p a.pool.parted) × (stamps p a.pool.parted ≡ n)
+
+-- the page is the caller's own
+abbrev pub HasOwn : Account → ℕ → Type 0
+HasOwn a p = 0 < owns p a.pool.own

@@ -16,16 +16,19 @@ use Rattle.board_core.specs.Blocks.{shown_at, ended_at, block_size}
 use Rattle.board_core.specs.Records.{IsRecord}
 use Rattle.board_core.specs.Histories.{block_at, history_of, shown_by}
 use Rattle.board_core.specs.Accounts.{nothing, with_me}
-use Rattle.board_core.specs.Truths.{IsTrueRoom, IsTrueLog, told_in}
+use Rattle.board_core.specs.Truths.{IsTrueRoom, IsTrueLog, IsTruePool, told_in}
 use Rattle.board_core.specs.declared.room.Sealed.{Sealed}
 use Rattle.board_core.specs.declared.room.Row.{Row}
 use Rattle.board_core.specs.RoomRule.{own_block, region_of, store_of, IsSealed, SealedFits}
 use Rattle.board_core.specs.MarkRule.{IsAmong, AreListed}
-use Rattle.board_core.specs.Loaded.{HasLoaded, SawMark, IsOpenMark, IsInTable}
+use Rattle.board_core.specs.Loaded.{HasLoaded, SawMark, IsOpenMark, IsInTable, IsPage, HasEpoch, HasState, HasParted, HasOwn}
 use Rattle.board_core.specs.LoadRule.{LoadFits}
 use Rattle.board_core.specs.FactRule.{BlocksStand}
+use Rattle.board_core.specs.Sheets.{owns}
+use Rattle.board_core.specs.StateRule.{StatesStand}
+use Rattle.board_core.specs.EpochRule.{IsPast, last_epoch}
 use Rattle.board_core.specs.LogWord.{kind_in, publication_word, target_in, withdrawal_word}
-use Rattle.board_core.specs.After.{after_code, after_fact, after_head, after_mark, after_word, noted, after_take, after_free, after_answer, after_front, after_shows, after_ends, after_logged, after_event, after_shown}
+use Rattle.board_core.specs.After.{after_epoch, after_advance, after_pin, after_unpin, after_pass, after_state, after_lost, after_page, after_retire, after_code, after_fact, after_head, after_mark, after_word, noted, after_take, after_free, after_answer, after_front, after_shows, after_ends, after_logged, after_event, after_shown}
 
 abbrev pub Mine : Type 0
 Mine = Me (Unit {0}) View
@@ -103,6 +106,36 @@ pub record MayShowEvent (a : Account) (word : ℕ) : Type 0 where
   pub holding : a.log.holding ≡ Fronted
   pub logged : a.log.pending.logged ≡ Some word
 
+-- an epoch that was loaded may be announced by a caller that is not pinned
+pub record MayPin (a : Account) (e : ℕ) : Type 0 where
+  pub unpinned : a.pool.announced ≡ 0
+  pub loaded : HasEpoch a e
+
+-- the epoch after one that was loaded may be tried
+pub record MayAdvance (a : Account) (e : ℕ) : Type 0 where
+  pub loaded : HasEpoch a e
+  pub most : e < last_epoch
+
+-- the scan is at this caller, counted from 0
+pub record MayPass (k : Shape) (a : Account) (i : ℕ) : Type 0 where
+  pub here : a.pool.passed ≡ i
+  pub inside : i < k.loaders + k.searchers
+
+-- a page whose state is this word may be taken: it is free, or its state was loaded as retired below the least epoch of a scan that
+-- has passed all callers
+pub record MayTakePage (k : Shape) (a : Account) (loader p x : ℕ) : Type 0 where
+  pub who : a.who ≡ Loader loader
+  pub inside : IsPage k p
+  pub other : x ≢ 1
+  pub seen : x ≢ 0 → HasState a p x
+  pub below : x ≢ 0 → x ≤ a.pool.low
+  pub scanned : x ≢ 0 → k.loaders + k.searchers ≤ a.pool.passed
+
+-- a page may be retired with this stamp: it is unlinked and has it, or it is the caller's own, and the epoch was loaded
+pub record MayRetire (k : Shape) (a : Account) (p n : ℕ) : Type 0 where
+  pub inside : IsPage k p
+  pub kind : HasParted a p n ⊎ (HasOwn a p × HasEpoch a n)
+
 -- ---- what is known of a board whatever its words are
 
 -- what the rule says of the blocks that the events show: each shows a record, and its last mark is the number of the event, if any,
@@ -138,6 +171,7 @@ pub record AreTrue (k : Shape) (a : Account) (es : List Entry) : Type 0 where
   pub silent : told_in (noted a.loads es) ≡ []
   pub each : (p : Parts) → Known k p → Agrees k p a → Each (IsTrueLog k (history_of k p)) es
   pub rooms : Each (IsTrueRoom (k.room - length a.room.used)) es
+  pub pages : (states : ℕ → ℕ) → StatesStand states a.loads → Each (IsTruePool k states) es
 
 -- ---- what the steps tell
 
@@ -206,3 +240,35 @@ pub record LoadsCode (row : Row) (code : ℕ) (s : Step (Unit {0})) (m : Mine) (
 pub record LoadsFact (s : Step (Unit {0})) (m : Mine) (found : ℕ) (n : Mine) : Type 0 where
   pub after : n ≡ became m (after_fact m.0.me s.word found)
   pub may : MayBeSome m.0.shape (after_fact m.0.me s.word found)
+
+-- the epoch was loaded: it is one, no earlier than any that was loaded before, and one that is known to have come
+pub record LoadsEpoch (s : Step (Unit {0})) (m : Mine) (found : ℕ) (n : Mine) : Type 0 where
+  pub after : n ≡ became m (after_epoch m.0.me found)
+  pub above : 0 < found
+  pub most : found ≤ last_epoch
+  pub later : Each (IsPast found) m.0.me.loads.epochs
+  pub risen : m.0.me.pool.risen ≤ found
+
+abbrev pub Advances : Step (Unit {0}) → Mine → ℕ → Mine → Type 0
+Advances s m found n = n ≡ became m (after_advance m.0.me s.first)
+
+abbrev pub Pins : Step (Unit {0}) → Mine → ℕ → Mine → Type 0
+Pins s m found n = n ≡ became m (after_pin m.0.me s.first)
+
+abbrev pub Unpins : Step (Unit {0}) → Mine → ℕ → Mine → Type 0
+Unpins s m found n = n ≡ became m (after_unpin m.0.me)
+
+abbrev pub Passes : Step (Unit {0}) → Mine → ℕ → Mine → Type 0
+Passes s m found n = n ≡ became m (after_pass m.0.me found)
+
+abbrev pub LoadsState : ℕ → Step (Unit {0}) → Mine → ℕ → Mine → Type 0
+LoadsState p s m found n = n ≡ became m (after_state m.0.me p found)
+
+-- the page is the caller's, which it was not before, or its state was another
+pub record TakesPage (p : ℕ) (s : Step (Unit {0})) (m : Mine) (found : ℕ) (n : Mine) : Type 0 where
+  pub won : found ≡ s.first → n ≡ became m (after_page m.0.me p)
+  pub fresh : found ≡ s.first → owns p m.0.me.pool.own ≡ 0
+  pub lost : found ≢ s.first → n ≡ became m (after_lost m.0.me p found)
+
+abbrev pub Retires : ℕ → Step (Unit {0}) → Mine → ℕ → Mine → Type 0
+Retires p s m found n = n ≡ became m (after_retire m.0.me p)

@@ -1,5 +1,5 @@
 -- What makes an entry true of a history, and which events an account tells of.
-use Rattle.std.specs.Prelude.{◌<◌, ◌≡◌, ℕ, ◌≤◌, List, [], ◌∷◌, ◌++◌, length, take}
+use Rattle.std.specs.Prelude.{◌<◌, ◌≡◌, ◌≢◌, ℕ, ◌≤◌, List, [], ◌∷◌, ◌++◌, length, take}
 use Rattle.htss_defs.specs.declared.shape.Shape.{Shape}
 use Rattle.htss_defs.specs.declared.history.Event.{Event}
 use Rattle.htss_defs.specs.declared.history.Event.TheVariants.{Publish, Withdraw}
@@ -19,7 +19,7 @@ abbrev pub reply_of : Reply → Answer
 reply_of (Hits hits) = found hits
 reply_of OverBudget = over_budget
 
--- the half of an entry's truth that reads the history. No step reads pages yet, so no account has an entry that tells of them
+-- the part of an entry's truth that reads the history. No step reads words of pages yet, so no account has an entry that tells of them
 abbrev pub IsTrueLog : Shape → List Event → Entry → Type 0
 IsTrueLog k h (Published number event) = HasEvent h number event
 IsTrueLog k h (Withdrawn number event) = HasEvent h number event
@@ -28,11 +28,11 @@ IsTrueLog k h (Unknown number front) = (front ≤ length h) × ¬ (IsPublished (
 IsTrueLog k h (Ended number at) = Withdraws h at number
 IsTrueLog k h (LogFull front) = (front ≤ length h) × (front ≡ k.log)
 IsTrueLog k h (DataFull left need) = Unit {0}
-IsTrueLog k h NoPage = ⊥
+IsTrueLog k h NoPage = Unit {0}
 IsTrueLog k h (ChainFull pages) = ⊥
 IsTrueLog k h (Swept need front rows) = ⊥
 
--- the half that reads how many words of the caller's region are left
+-- the part that reads how many words of the caller's region are left
 abbrev pub IsTrueRoom : ℕ → Entry → Type 0
 IsTrueRoom unused (Published number event) = Unit {0}
 IsTrueRoom unused (Withdrawn number event) = Unit {0}
@@ -44,6 +44,19 @@ IsTrueRoom unused (DataFull left need) = (left < need) × (unused ≤ left)
 IsTrueRoom unused NoPage = Unit {0}
 IsTrueRoom unused (ChainFull pages) = Unit {0}
 IsTrueRoom unused (Swept need front rows) = Unit {0}
+
+-- the part that reads the states of pages
+abbrev pub IsTruePool : Shape → (ℕ → ℕ) → Entry → Type 0
+IsTruePool k states (Published number event) = Unit {0}
+IsTruePool k states (Withdrawn number event) = Unit {0}
+IsTruePool k states (Answered query budget front reply) = Unit {0}
+IsTruePool k states (Unknown number front) = Unit {0}
+IsTruePool k states (Ended number at) = Unit {0}
+IsTruePool k states (LogFull front) = Unit {0}
+IsTruePool k states (DataFull left need) = Unit {0}
+IsTruePool k states NoPage = (p : ℕ) → 0 < p → p ≤ k.pages → states p ≢ 0
+IsTruePool k states (ChainFull pages) = Unit {0}
+IsTruePool k states (Swept need front rows) = Unit {0}
 
 -- the entry of an event, and the events that an entry tells of
 abbrev pub entry_of : ℕ → Event → Entry

@@ -8,7 +8,7 @@ use Rattle.board_core.specs.Histories.{history_of}
 use Rattle.board_core.specs.Blocks.{ended_at}
 use Rattle.board_core.specs.LogWord.{kind_in, target_in}
 use Rattle.board_core.specs.Loaded.{HasLoaded, SawMark, IsOpenMark, Grows}
-use Rattle.board_core.specs.Truths.{IsTrueLog, IsTrueRoom}
+use Rattle.board_core.specs.Truths.{IsTrueLog, IsTruePool, IsTrueRoom}
 use Rattle.board_core.specs.Steps.{MayEnd, AreTrue}
 use Rattle.board_core.specs.After.{after_shown, after_mark}
 use Rattle.board_core.proofs.Lists.{each_none, each_cons}
@@ -24,6 +24,7 @@ full_true k a full = record {
   silent = refl;
   each = λ p known agrees. each_cons (IsTrueLog k (history_of k p)) (LogFull a.log.seen) [] (seen_within k p a (record { known = known; agrees = agrees }) a.log.seen (omega arith), full) (each_none (IsTrueLog k (history_of k p)));
   rooms = each_cons (IsTrueRoom (k.room - length a.room.used)) (LogFull a.log.seen) [] tt (each_none (IsTrueRoom (k.room - length a.room.used)));
+  pages = λ states _. each_cons (IsTruePool k states) (LogFull a.log.seen) [] tt (each_none (IsTruePool k states));
 }
 
 -- ---- the number, and the front as the lock tells it

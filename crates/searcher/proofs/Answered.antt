@@ -12,7 +12,7 @@ use Rattle.board_core.specs.declared.entry.Entry.TheVariants.{Answered}
 use Rattle.board_core.specs.declared.entry.Noted.{Noted}
 use Rattle.board_core.specs.declared.entry.Reply.{Reply}
 use Rattle.board_core.specs.Histories.{history_of}
-use Rattle.board_core.specs.Truths.{IsTrueLog, IsTrueRoom, reply_of}
+use Rattle.board_core.specs.Truths.{IsTrueLog, IsTruePool, IsTrueRoom, reply_of}
 use Rattle.board_core.specs.After.{after_front, after_answer, noted}
 use Rattle.board_core.specs.Steps.{AreTrue, MayBe}
 use Rattle.board.specs.Seated.{Seated, with_account}
@@ -29,6 +29,7 @@ answered_true k a query budget front reply r = let e : Entry = Answered query bu
   silent = refl;
   each = λ p known agrees. let m : MayBe k p a = record { known = known; agrees = agrees } in each_cons (IsTrueLog k (history_of k p)) e [] (seen_within k p a m front r.seen, r.is p m) (each_none (IsTrueLog k (history_of k p)));
   rooms = each_cons (IsTrueRoom (k.room - length a.room.used)) e [] tt (each_none (IsTrueRoom (k.room - length a.room.used)));
+  pages = λ states _. each_cons (IsTruePool k states) e [] tt (each_none (IsTruePool k states));
 }
 
 -- the front was loaded, then words, and then the entries were added

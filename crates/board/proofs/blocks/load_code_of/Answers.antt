@@ -13,7 +13,7 @@ code_place-at-requires-clause-block g c = block_small c.board.inside.shape _ _ c
 
 pub load-requires : goal.load-requires
 load-requires g c = (
-  same_table _ _ _ _ _ _ _ c.board.view_is c.caller.view_is c.requires.fits,
+  same_table _ _ _ _ _ _ _ _ _ c.board.view_is c.caller.view_is c.requires.fits,
   code_inside _ c.args.block c.args.head c.args.atom c.args.code _ c.board.inside.shape c.board.invariant.1 (of_shape (λ (k : Shape). c.args.block + block_size c.args.head ≤ total_of k) _ _ _ c.board.view_is c.requires.place) c.code_place-at.ensures c.requires.atom.0 c.requires.atom.1 c.requires.code,
-  code_asked _ _ _ _ _ c.args.head c.args.atom c.args.code _ _ _ c.requires.row c.requires.which c.code_place-at.ensures (of_both (λ (k : Shape) (a : Account). KnowsHead k a c.args.block c.args.head) _ _ _ _ _ _ _ _ c.board.view_is c.caller.view_is c.board.invariant.0 c.requires.known) c.requires.atom.0 c.requires.atom.1 c.requires.code (stays _ _ _ c.caller.invariant.1),
+  code_asked _ _ _ _ _ c.args.head c.args.atom c.args.code _ _ _ c.requires.row c.requires.which c.code_place-at.ensures (of_both (λ (k : Shape) (a : Account). KnowsHead k a c.args.block c.args.head) _ _ _ _ _ _ _ _ _ _ c.board.view_is c.caller.view_is c.board.invariant.0 c.requires.known) c.requires.atom.0 c.requires.atom.1 c.requires.code (stays _ _ _ c.caller.invariant.1),
 )

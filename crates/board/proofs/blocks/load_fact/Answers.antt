@@ -14,7 +14,7 @@ overflow_add-at c = let small : c.args.block + c.args.word < 2 ^ 40 = word_fits 
 
 pub load-requires : goal.load-requires
 load-requires c = (
-  same_table _ _ _ _ _ _ _ c.board.view_is c.caller.view_is c.requires.fits,
+  same_table _ _ _ _ _ _ _ _ _ c.board.view_is c.caller.view_is c.requires.fits,
   word_inside _ c.args.block (block_size c.args.head) c.args.word c.board.inside.shape c.board.invariant.1 (of_shape (λ (k : Shape). c.args.block + block_size c.args.head ≤ total_of k) _ _ _ c.board.view_is c.requires.place) c.requires.word.1,
-  fact_allowed _ _ _ _ c.args.block c.args.head c.args.word _ refl (of_both (λ (k : Shape) (a : Account). KnowsHead k a c.args.block c.args.head) _ _ _ _ _ _ _ _ c.board.view_is c.caller.view_is c.board.invariant.0 c.requires.known) c.requires.word.0 c.requires.word.1 (stays _ _ _ c.caller.invariant.1),
+  fact_allowed _ _ _ _ c.args.block c.args.head c.args.word _ refl (of_both (λ (k : Shape) (a : Account). KnowsHead k a c.args.block c.args.head) _ _ _ _ _ _ _ _ _ _ c.board.view_is c.caller.view_is c.board.invariant.0 c.requires.known) c.requires.word.0 c.requires.word.1 (stays _ _ _ c.caller.invariant.1),
 )

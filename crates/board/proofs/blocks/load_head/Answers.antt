@@ -8,7 +8,7 @@ use Rattle.board.proofs.blocks.load_head.Goals as goal
 
 pub load-requires : goal.load-requires
 load-requires c = (
-  same_table _ _ _ _ _ _ _ c.board.view_is c.caller.view_is c.requires.fits,
+  same_table _ _ _ _ _ _ _ _ _ c.board.view_is c.caller.view_is c.requires.fits,
   first_inside _ _ _ c.board.invariant.1 (of_shape (λ (k : Shape). IsInTable k c.args.block) _ _ _ c.board.view_is c.requires.place),
-  head_allowed _ _ _ _ _ (of_both (λ (k : Shape) (a : Account). KnowsBlock k a c.args.block) _ _ _ _ _ _ _ _ c.board.view_is c.caller.view_is c.board.invariant.0 c.requires.known) (stays _ _ _ c.caller.invariant.1),
+  head_allowed _ _ _ _ _ (of_both (λ (k : Shape) (a : Account). KnowsBlock k a c.args.block) _ _ _ _ _ _ _ _ _ _ c.board.view_is c.caller.view_is c.board.invariant.0 c.requires.known) (stays _ _ _ c.caller.invariant.1),
 )

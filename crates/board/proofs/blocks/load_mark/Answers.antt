@@ -12,7 +12,7 @@ overflow_add-at c = let small : c.args.block + 2 < 2 ^ 40 = block_fits c.board.i
 
 pub load-requires : goal.load-requires
 load-requires c = (
-  same_table _ _ _ _ _ _ _ c.board.view_is c.caller.view_is c.requires.fits,
+  same_table _ _ _ _ _ _ _ _ _ c.board.view_is c.caller.view_is c.requires.fits,
   block_word _ c.args.block 2 _ c.board.invariant.1 (omega arith) (of_shape (λ (k : Shape). IsInTable k c.args.block) _ _ _ c.board.view_is c.requires.place),
-  mark_allowed _ _ _ _ c.args.block _ refl (of_both (λ (k : Shape) (a : Account). KnowsBlock k a c.args.block) _ _ _ _ _ _ _ _ c.board.view_is c.caller.view_is c.board.invariant.0 c.requires.known),
+  mark_allowed _ _ _ _ c.args.block _ refl (of_both (λ (k : Shape) (a : Account). KnowsBlock k a c.args.block) _ _ _ _ _ _ _ _ _ _ c.board.view_is c.caller.view_is c.board.invariant.0 c.requires.known),
 )

@@ -9,7 +9,7 @@ use Rattle.board.proofs.regions.mark_ended.Goals as goal
 
 pub overflow_add-next : goal.overflow_add-next
 overflow_add-next g c =
-    let may = of_both (λ (k : Shape) (a : Account). MayEnd k a (record { target = c.args.target; block = c.args.block })) _ _ _ _ _ _ _ _ c.board.view_is c.caller.view_is c.board.invariant.0 c.requires.may in
+    let may = of_both (λ (k : Shape) (a : Account). MayEnd k a (record { target = c.args.target; block = c.args.block })) _ _ _ _ _ _ _ _ _ _ c.board.view_is c.caller.view_is c.board.invariant.0 c.requires.may in
     let small : c.caller.inside.seen + 1 < 2 ^ 32 = next_fits _ _ _ _ c.board.invariant.0 c.board.invariant.2 may.may c.caller.invariant.0 in omega arith
 
 pub overflow_add-at : goal.overflow_add-at
@@ -17,8 +17,8 @@ overflow_add-at g c = let small : c.args.block + 2 < 2 ^ 40 = block_fits c.board
 
 pub store-requires : goal.store-requires
 store-requires g c =
-    let may = of_both (λ (k : Shape) (a : Account). MayEnd k a (record { target = c.args.target; block = c.args.block })) _ _ _ _ _ _ _ _ c.board.view_is c.caller.view_is c.board.invariant.0 c.requires.may in (
-      same_table _ _ _ _ _ _ _ c.board.view_is c.caller.view_is c.requires.fits,
+    let may = of_both (λ (k : Shape) (a : Account). MayEnd k a (record { target = c.args.target; block = c.args.block })) _ _ _ _ _ _ _ _ _ _ c.board.view_is c.caller.view_is c.board.invariant.0 c.requires.may in (
+      same_table _ _ _ _ _ _ _ _ _ c.board.view_is c.caller.view_is c.requires.fits,
       block_word _ c.args.block 2 _ c.board.invariant.1 (omega arith) (of_shape (λ (k : Shape). IsInTable k c.args.block) _ _ _ c.board.view_is c.requires.place),
       ends_asked _ _ _ _ (record { target = c.args.target; block = c.args.block }) _ _ c.requires.is
           (of_key (λ (k : Shape). IsInTable k c.args.block) _ _ _ _ c.board.view_is c.board.invariant.0 c.requires.place)

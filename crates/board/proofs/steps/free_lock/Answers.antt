@@ -8,8 +8,8 @@ use Rattle.board.proofs.steps.free_lock.Goals as goal
 
 pub store-requires : goal.store-requires
 store-requires g c = (
-  same_table _ _ _ _ _ _ _ c.board.view_is c.caller.view_is c.requires.fits,
+  same_table _ _ _ _ _ _ _ _ _ c.board.view_is c.caller.view_is c.requires.fits,
   low_word _ _ _ _ _ _ 1 c.board.invariant.1 (omega arith),
-  free_allowed _ _ _ _ _ (of_account MayFree _ _ _ _ c.caller.view_is c.requires.may)
-      (of_both (λ (k : Shape) (a : Account). AreTrue k a g.E.Answers.entries) _ _ _ _ _ _ _ _ c.board.view_is c.caller.view_is c.board.invariant.0 c.requires.answers),
+  free_allowed _ _ _ _ _ (of_account MayFree _ _ _ _ _ _ c.caller.view_is c.requires.may)
+      (of_both (λ (k : Shape) (a : Account). AreTrue k a g.E.Answers.entries) _ _ _ _ _ _ _ _ _ _ c.board.view_is c.caller.view_is c.board.invariant.0 c.requires.answers),
 )
