@@ -56,6 +56,7 @@ pub mod Announce
 pub mod PassCaller
 pub mod LoadState
 pub mod TakePage
+pub mod ToldTwice
 pub mod RetirePage
 pub mod SplitNote
 pub mod SplitCaller
