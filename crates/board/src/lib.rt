@@ -14,6 +14,7 @@ mod seats;
 mod staged;
 mod steps;
 mod stock;
+mod tree;
 
 pub use blocks::{load_code, load_fact, load_head, load_mark};
 pub use close::{Final, gather};
@@ -27,6 +28,7 @@ pub use pages::{exchange_state, load_state, store_retired};
 pub use regions::{next_place, seal_block, store_ended, store_shown, store_word};
 pub use seats::{Board, Caller, Note, STOCK};
 pub use staged::Staged;
+pub use tree::{begin_row, load_own_code, claim_code, claim_entry, link_leaf, link_next_inner, link_next_leaf, load_header, load_link, load_more, load_slot, store_own_word};
 pub use steps::{
     Answers, Shown, advance_front, exchange_lock, free_lock, load_front, load_log_word,
     note_answers, store_log_word,
