@@ -28,8 +28,11 @@ pub use pages::{exchange_state, load_state, store_retired};
 pub use regions::{next_place, seal_block, store_ended, store_shown, store_word};
 pub use seats::{Board, Caller, Note, STOCK};
 pub use staged::Staged;
-pub use tree::{begin_row, load_own_code, claim_code, claim_entry, link_leaf, link_next_inner, link_next_leaf, load_header, load_link, load_more, load_slot, store_own_word};
 pub use steps::{
     Answers, Shown, advance_front, exchange_lock, free_lock, load_front, load_log_word,
     note_answers, store_log_word,
+};
+pub use tree::{
+    begin_row, claim_code, claim_entry, link_leaf, link_next_inner, link_next_leaf, load_header,
+    load_link, load_more, load_own_code, load_own_head, load_slot, store_own_word,
 };

@@ -3,7 +3,7 @@ use crate::blocks::Coded;
 use crate::pages::Paged;
 use crate::regions::{Completed, Ended, Marked};
 use crate::steps::{Answers, Shown};
-use crate::tree::{Claimed, Keeps, Reaches};
+use crate::tree::{Claims, Keeps, Reaches};
 use atomic_table::{Join, Play, Split};
 use board_core::View;
 use std::marker::PhantomData;
@@ -285,13 +285,21 @@ impl<R: Reaches> Play<(), View> for LoadMore<R> {
 }
 
 pub(crate) struct ClaimWord<C> {
-    after: PhantomData<C>,
+    claim: PhantomData<C>,
 }
 
-impl<C: Claimed> Play<(), View> for ClaimWord<C> {
-    ghost use Rattle.board_core.specs.Steps.{Claims};
+impl<C: Claims> Play<(), View> for ClaimWord<C> {
+    ghost use Rattle.board_core.specs.Steps.{ClaimsWord};
 
-    ghost then = { Claims C.after };
+    ghost then = { ClaimsWord C.claim };
+}
+
+pub(crate) struct LoadOwnHead;
+
+impl Play<(), View> for LoadOwnHead {
+    ghost use Rattle.board_core.specs.Steps.{LoadsOwnHead};
+
+    ghost then = { λ s m found n. LoadsOwnHead s.word s m found n };
 }
 
 /// A note has seen what the caller has.

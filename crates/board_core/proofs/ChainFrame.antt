@@ -94,7 +94,7 @@ chains_more k w states vs id v a es r at pool true_all entries =
     let e : KeepsPages w w s z = same_sheet w states vs id v a at pool in
     moved (λ x. AreTrueOf k w s x.entries) (λ x. AreTrueOf k w z x.entries) vs id v a at
     (subst (AreTrueOf k w z) (sym entries) (all_later k w w s z (v.me.entries ++ noted v.me.loads es) e
-      (each_append (λ n. IsTrueChain k w s n.entry) v.me.entries (noted v.me.loads es) (mine (λ x. AreTrueOf k w s x.entries) vs id v at r) (noted_chains k w s v.me.loads es true_all))))
+    (each_append (λ n. IsTrueChain k w s n.entry) v.me.entries (noted v.me.loads es) (mine (λ x. AreTrueOf k w s x.entries) vs id v at r) (noted_chains k w s v.me.loads es true_all))))
     (λ x _ all. all_later k w w s z x.entries e all) r
 
 -- an event's entry says nothing of chains
@@ -125,16 +125,16 @@ module _ (w : ℕ → ℕ → ℕ) (s : Sheet) (m : ℕ → Place) (codes : ℕ 
       let back = λ (i : ℕ) (h : i < count). chain_back w s m codes placed t (m y.page).rank y.page l refl i (omega arith) in
       let leads : (i : ℕ) (h : i < count) → i + 1 < count → w (back i h).0 1 ≢ 0 = λ i h g. (back i h).1.more (omega arith) in
       let next : (i : ℕ) (h : i < count) (g : i + 1 < count) → w (back i h).0 1 ≡ (back (i + 1) g).0 = λ i h g.
-        next_in (back i h).0 (back (i + 1) g).0 i (back i h).1.linked (back (i + 1) g).1.linked ((back i h).1.path ∙ sym (back (i + 1) g).1.path) (back i h).1.rank ((back (i + 1) g).1.rank ∙ (let e : i + 1 ≡ suc i = omega arith in e)) in
+      next_in (back i h).0 (back (i + 1) g).0 i (back i h).1.linked (back (i + 1) g).1.linked ((back i h).1.path ∙ sym (back (i + 1) g).1.path) (back i h).1.rank ((back (i + 1) g).1.rank ∙ (let e : i + 1 ≡ suc i = omega arith in e)) in
       let slots : (j : ℕ) → j < page_room y.leaf → w y.page (slot_at y.leaf j) ≢ 0 = λ j less e. let f = has_at y.slots j (omega arith) in let g = fits.known j f.0 f.1 in g.0 (sym g.1 ∙ e) in record {
         leaf = y.leaf;
         page = λ i h. (back i h).0;
         linked = λ i h. (back i h).1.linked;
         full = λ i j h less none_here. dite (ℕ_discrete (i + 1) count)
             (λ e. let same : (back i h).0 ≡ y.page = t.alone (back i h).0 y.page (back i h).1.linked l (back i h).1.path ((back i h).1.rank ∙ (let z : i ≡ (m y.page).rank = omega arith in z)) in
-              slots j less (ap (λ p. w p (slot_at y.leaf j)) (sym same) ∙ none_here))
+            slots j less (ap (λ p. w p (slot_at y.leaf j)) (sym same) ∙ none_here))
             (λ e. let page : PageStands (w (back i h).0) (m (back i h).0) = t.pages (back i h).0 (back i h).1.linked in
-              subst (λ (b : Bool). j < page_room b → w (back i h).0 (slot_at b j) ≢ 0) ((back i h).1.kind ∙ kind) (page.full (leads i h (omega arith)) j) less none_here);
+            subst (λ (b : Bool). j < page_room b → w (back i h).0 (slot_at b j) ≢ 0) ((back i h).1.kind ∙ kind) (page.full (leads i h (omega arith)) j) less none_here);
         next = next;
         more = leads;
       }

@@ -23,11 +23,11 @@ use Rattle.board_core.specs.KnownRule.{no_rows}
 use Rattle.board_core.specs.Loaded.{page_word}
 use Rattle.board_core.specs.Holds.{Rule, Holds}
 use Rattle.board_core.specs.After.{visited}
-use Rattle.board_core.specs.Steps.{Mine, Claims}
+use Rattle.board_core.specs.Steps.{Mine, Claims, LoadsSlot}
 use Rattle.board_core.proofs.Everyone.{mine}
 use Rattle.board_core.specs.OwnRule.{OwnFits}
 use Rattle.board_core.proofs.PageLoads.{at_visit}
-use Rattle.board_core.proofs.LoadPage.{known_here}
+use Rattle.board_core.proofs.LoadPage.{known_here, slot_allowed}
 use Rattle.board_core.proofs.Linked.{keeps_linked, put_is, link_tree}
 use Rattle.board_core.proofs.Claimed.{own_linked, row_below}
 use Rattle.board_core.proofs.Treed.{by_tree, claim_allowed}
@@ -59,7 +59,7 @@ chain_absent k p h vs id j c v r at within inner absent stop last t b g path =
     let there = at_visit v.me.tree.reached j within in
     let known = (known_here k p h vs id v r at).known in
     let read = chain_read p.pages s r.tree.place (codes_in k p.regions) (IsPlaced vs) r.tree.tree v.me.tree.reached known.fits known.chain x (j, there) ((known.fits j x there).inner inner) stop last c t b
-      (subst (λ (e : Bool). HasSlot p.pages s r.tree.place e c t b) (sym inner) g) path in
+    (subst (λ (e : Bool). HasSlot p.pages s r.tree.place e c t b) (sym inner) g) path in
     absent read.0 record { there = read.1.there; path = read.1.path; kind = read.1.kind ∙ inner } read.2
 
 pub claim_code : (k : Shape) (p : Parts) (h : List Event) (vs : List View) (id j c : ℕ) (v : View) → Rule k p h vs → get_elem? vs id ≡ some v → MayClaimCode k v.me j c
@@ -85,7 +85,7 @@ claim_code k p h vs id j c v r at may word =
     let room : i < page_room x.leaf = subst (λ (b : Bool). i < page_room b) (sym may.inner) may.room in
     let none_here : w x.page (slot_at x.leaf i) ≡ 0 = subst (λ (b : Bool). w x.page (slot_at b i) ≡ 0) (sym may.inner) word in
     let absent = chain_absent k p h vs id j c v r at within may.inner may.claim.absent (λ t past less. page.front i t past less none_here)
-      (dite (ℕ_discrete (w x.page 1) 0) (λ e. e) (λ e. absurd (page.full e i room none_here))) in
+    (dite (ℕ_discrete (w x.page 1) 0) (λ e. e) (λ e. absurd (page.full e i room none_here))) in
     let put = put_is w x.page (2 + 2 * i) c in
     let sheet : z ≡ s = sheet_same p.pool.states vs id v a at (λ _. refl) refl in
     let condition : MayCode w s m x.page i c = record {
@@ -99,8 +99,8 @@ claim_code k p h vs id j c v r at may word =
     } in
     let placed : (y : ℕ) → IsPlaced vs y → IsPlaced ws y = rows_stay vs id v a at (λ y. y.tree.placed) refl in
     let tree : Tree u z m codes (IsPlaced ws) = subst (λ (y : Sheet). Tree u y m codes (IsPlaced ws)) (sym sheet)
-      (same_placed u s m codes (IsPlaced vs) (IsPlaced ws) placed (λ y g. ⊎_elim (λ (e : IsPlaced vs y). e) (λ (e : HasRow y v.me.tree.placed). (id, v, at, 0, v.me, refl, e)) (placed_split vs id v a at y g))
-        (code_claimed w u s m codes (IsPlaced vs) x.page i c r.tree.tree condition put)) in
+    (same_placed u s m codes (IsPlaced vs) (IsPlaced ws) placed (λ y g. ⊎_elim (λ (e : IsPlaced vs y). e) (λ (e : HasRow y v.me.tree.placed). (id, v, at, 0, v.me, refl, e)) (placed_split vs id v a at y g))
+    (code_claimed w u s m codes (IsPlaced vs) x.page i c r.tree.tree condition put)) in
     let row = may.claim.row in
     by_tree k p u h vs id v a r at
     record { who = refl; log = refl; room = refl; entries = refl; shown = refl; heads = refl; facts = refl; codes = refl; marks = refl }
@@ -124,7 +124,7 @@ claim_code k p h vs id j c v r at may word =
             entry_word row,
             (id, v, at, 0, v.me, refl, (row, may.claim.begun, refl)),
             subst (λ (o : List ℕ × ℕ). IsBelow (o.0 ++ o.1 ∷ []) (codes (entry_word row))) (λ f. ((sym (ap (λ (y2 : ℕ). (m y2).path) e.0 ∙ ap (λ (P : Place). P.path) here)) f, sym e.2 f))
-              (row_below k p h vs id v r at row (x.path ++ c ∷ []) may.claim.begun may.claim.below),
+                (row_below k p h vs id v r at row (x.path ++ c ∷ []) may.claim.begun may.claim.below),
           ))
           (λ (e : HasSlot w s m false t y b). inl e)
           (back w u s m codes (IsPlaced vs) x.page i c r.tree.tree condition put t y b (subst (λ (e : Sheet). HasSlot u e m false t y b) sheet g));
@@ -133,8 +133,10 @@ claim_code k p h vs id j c v r at may word =
     })
 
 pub code_allowed : (k : Shape) (slots id j c at_word : ℕ) (m : Mine) → at_word ≡ page_word k (visited m.0.me.tree.reached j).page (2 + 2 * length (visited m.0.me.tree.reached j).slots) → MayClaimCode k m.0.me j c
-    → Allows (Holds k) slots id m at_word (λ f. either (f == 0) c f) (Claims (after_slot m.0.me j c) (step slots at_word 0 c none) m)
+    → Allows (Holds k) slots id m at_word (λ f. either (f == 0) c f) (Claims (after_slot m.0.me j c) (LoadsSlot j) (step slots at_word 0 c none) m)
 code_allowed k slots id j c at_word m is may =
+    let x : Reached = visited m.0.me.tree.reached j in
     let room = may.room in
-    claim_allowed k slots id (visited m.0.me.tree.reached j).page (2 + 2 * length (visited m.0.me.tree.reached j).slots) c at_word m (after_slot m.0.me j c) is may.visit.inside (omega arith)
+    claim_allowed k slots id x.page (2 + 2 * length x.slots) c at_word m (after_slot m.0.me j c) (LoadsSlot j) is may.visit.inside (omega arith)
     (λ s h at word. claim_code k (parts_of k s.words) (history_of k (parts_of k s.words)) s.views id j c m.0 h.rule at may word)
+    (slot_allowed k slots id j at_word c m (is ∙ ap (λ (b : Bool). page_word k x.page (slot_at b (length x.slots))) (sym may.inner)) record { visit = may.visit; unread = may.unread; room = subst (λ (b : Bool). length x.slots < page_room b) (sym may.inner) room })

@@ -22,12 +22,12 @@ use Rattle.board_core.specs.KnownRule.{no_rows}
 use Rattle.board_core.specs.Loaded.{page_word}
 use Rattle.board_core.specs.Holds.{Rule, Holds}
 use Rattle.board_core.specs.After.{visited}
-use Rattle.board_core.specs.Steps.{Mine, Claims}
+use Rattle.board_core.specs.Steps.{Mine, Claims, LoadsSlot}
 use Rattle.board_core.proofs.Lists.{each_none, each_cons}
 use Rattle.board_core.proofs.Everyone.{mine}
 use Rattle.board_core.specs.OwnRule.{OwnFits}
 use Rattle.board_core.proofs.PageLoads.{at_visit}
-use Rattle.board_core.proofs.LoadPage.{known_here}
+use Rattle.board_core.proofs.LoadPage.{known_here, slot_allowed}
 use Rattle.board_core.proofs.Linked.{keeps_linked, put_is, one_more, link_tree}
 use Rattle.board_core.proofs.Claimed.{own_linked, rows_placed, own_row, row_below, row_free, some_entry}
 use Rattle.board_core.proofs.Treed.{by_tree, claim_allowed}
@@ -107,8 +107,10 @@ claim_entry k p h vs id j q v r at may word =
     })
 
 pub entry_allowed : (k : Shape) (slots id j at_word : ℕ) (q : Row) (m : Mine) → at_word ≡ page_word k (visited m.0.me.tree.reached j).page (2 + length (visited m.0.me.tree.reached j).slots) → MayClaimEntry k m.0.me j q
-    → Allows (Holds k) slots id m at_word (λ f. either (f == 0) (entry_word q) f) (Claims (after_entry m.0.me j q) (step slots at_word 0 (entry_word q) none) m)
+    → Allows (Holds k) slots id m at_word (λ f. either (f == 0) (entry_word q) f) (Claims (after_entry m.0.me j q) (LoadsSlot j) (step slots at_word 0 (entry_word q) none) m)
 entry_allowed k slots id j at_word q m is may =
+    let x : Reached = visited m.0.me.tree.reached j in
     let room = may.room in
-    claim_allowed k slots id (visited m.0.me.tree.reached j).page (2 + length (visited m.0.me.tree.reached j).slots) (entry_word q) at_word m (after_entry m.0.me j q) is may.visit.inside (omega arith)
+    claim_allowed k slots id x.page (2 + length x.slots) (entry_word q) at_word m (after_entry m.0.me j q) (LoadsSlot j) is may.visit.inside (omega arith)
     (λ s h at word. claim_entry k (parts_of k s.words) (history_of k (parts_of k s.words)) s.views id j q m.0 h.rule at may word)
+    (slot_allowed k slots id j at_word (entry_word q) m (is ∙ ap (λ (b : Bool). page_word k x.page (slot_at b (length x.slots))) (sym may.leaf)) record { visit = may.visit; unread = may.unread; room = subst (λ (b : Bool). length x.slots < page_room b) (sym may.leaf) room })

@@ -24,7 +24,7 @@ use Rattle.board_core.specs.KnownRule.{no_rows}
 use Rattle.board_core.specs.Loaded.{page_word}
 use Rattle.board_core.specs.Holds.{Rule, Holds}
 use Rattle.board_core.specs.After.{visited, let_go, after_linked}
-use Rattle.board_core.specs.Steps.{Mine, MayLinkLeaf, Claims}
+use Rattle.board_core.specs.Steps.{Mine, MayLinkLeaf, Claims, LoadsLink}
 use Rattle.board_core.proofs.Lists.{each_none, each_cons, inside}
 use Rattle.board_core.proofs.Everyone.{mine}
 use Rattle.board_core.proofs.PoolTree.{pool_links, none_parted}
@@ -32,7 +32,7 @@ use Rattle.board_core.proofs.OwnFrame.{each_without}
 use Rattle.board_core.specs.OwnRule.{OwnFits}
 use Rattle.board_core.proofs.Hung.{hangs}
 use Rattle.board_core.proofs.PageLoads.{at_visit}
-use Rattle.board_core.proofs.LoadPage.{known_here}
+use Rattle.board_core.proofs.LoadPage.{known_here, link_allowed}
 use Rattle.board_core.proofs.Linked.{keeps_linked, put_is, with_at, at_here, at_else, turned_in, one_more, link_tree, Left}
 use Rattle.board_core.proofs.Claimed.{has_one, go_less, go_one, go_new, own_apart, own_busy, own_linked, rows_placed, own_row, row_below, row_free, some_entry}
 use Rattle.board_core.proofs.Treed.{by_tree, claim_allowed, page_past, busy_page}
@@ -49,11 +49,11 @@ link_leaf k p h vs id j i c n q v r at may word past some_n =
     let z : Sheet = sheet_of p.pool.states (set vs id (with_me v a)) in
     let m : ℕ → Place = r.tree.place in
     let codes : ℕ → List ℕ = codes_in k p.regions in
-    let fits = (known_here k p h vs id v r at).known.fits j x (at_visit v.me.tree.reached j may.visit.reached) in
-    let l : IsLinked s x.page = fits.inner may.inner in
+    let fits = (known_here k p h vs id v r at).known.fits j x (at_visit v.me.tree.reached j may.load.visit.reached) in
+    let l : IsLinked s x.page = fits.inner may.load.inner in
     let here : m x.page ≡ place_of x = fits.place l in
-    let known_code = subst (λ (b : Bool). (c ≢ 0) × (w x.page (slot_at b i) ≡ c)) may.inner (fits.known i c may.code) in
-    let room : i < 7 = (let less = inside x.slots i c may.code in let most : length x.slots ≤ 7 = subst (λ (b : Bool). length x.slots ≤ page_room b) may.inner fits.room in omega arith) in
+    let known_code = subst (λ (b : Bool). (c ≢ 0) × (w x.page (slot_at b i) ≡ c)) may.load.inner (fits.known i c may.load.code) in
+    let room : i < 7 = (let less = inside x.slots i c may.load.code in let most : length x.slots ≤ 7 = subst (λ (b : Bool). length x.slots ≤ page_room b) may.load.inner fits.room in omega arith) in
     let one = has_one w vs id n _ (entry_word q) v r.own at may.new past in
     let place : Place = hung w m x.page i in
     let same_path : place.path ≡ x.path ++ c ∷ [] = (λ t. (here t).path ++ known_code.1 t ∷ []) in
@@ -67,7 +67,7 @@ link_leaf k p h vs id j i c n q v r at may word past some_n =
     let tree : Tree u z new codes (IsPlaced (set vs id (with_me v a))) = hangs w u s z m new codes (IsPlaced vs) (IsPlaced (set vs id (with_me v a))) (Left v.me.pool.own a.pool.own) x.page i n (entry_word q) r.tree.tree
     record {
       inner = l;
-      kind = ap (λ (P : Place). P.leaf) here ∙ may.inner;
+      kind = ap (λ (P : Place). P.leaf) here ∙ may.load.inner;
       room = room;
       code = λ e. known_code.0 (sym known_code.1 ∙ e);
       empty = word;
@@ -101,9 +101,10 @@ link_leaf k p h vs id j i c n q v r at may word past some_n =
       learns = λ o. record { known = o.known; kept = o.kept; pairs = o.pairs; olds = o.olds };
     })
 
-pub leaf_allowed : (k : Shape) (slots id j i c n at_word : ℕ) (q : Row) (m : Mine) → at_word ≡ page_word k (visited m.0.me.tree.reached j).page (3 + 2 * i) → i < 7 → MayLinkLeaf k m.0.me j i c n q
-    → Allows (Holds k) slots id m at_word (λ f. either (f == 0) n f) (Claims (after_linked m.0.me n (q ∷ [])) (step slots at_word 0 n none) m)
-leaf_allowed k slots id j i c n at_word q m is small may =
-    claim_allowed k slots id (visited m.0.me.tree.reached j).page (3 + 2 * i) n at_word m (after_linked m.0.me n (q ∷ [])) is may.visit.inside (omega arith)
+pub leaf_allowed : (k : Shape) (slots id j i c n at_word : ℕ) (q : Row) (m : Mine) → at_word ≡ page_word k (visited m.0.me.tree.reached j).page (3 + 2 * i) → i < 7 → m.0.shape ≡ k → MayLinkLeaf k m.0.me j i c n q
+    → Allows (Holds k) slots id m at_word (λ f. either (f == 0) n f) (Claims (after_linked m.0.me n (q ∷ [])) (LoadsLink j i c) (step slots at_word 0 n none) m)
+leaf_allowed k slots id j i c n at_word q m is small shape may =
+    claim_allowed k slots id (visited m.0.me.tree.reached j).page (3 + 2 * i) n at_word m (after_linked m.0.me n (q ∷ [])) (LoadsLink j i c) is may.load.visit.inside (omega arith)
     (λ s h at word. link_leaf k (parts_of k s.words) (history_of k (parts_of k s.words)) s.views id j i c n q m.0 h.rule at may word (page_past k s.words n)
-      (let page = busy_page k s.words n (own_busy k (parts_of k s.words).pool s.views id n m.0 h.rule.pool at may.new.own) in let above = page.0 in λ z. omega arith))
+    (let page = busy_page k s.words n (own_busy k (parts_of k s.words).pool s.views id n m.0 h.rule.pool at may.new.own) in let above = page.0 in λ z. omega arith))
+    (link_allowed k slots id j i c at_word n m is small shape may.load)

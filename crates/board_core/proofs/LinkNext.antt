@@ -6,6 +6,7 @@ use native.Mathlib.Decide.{ℕ_discrete}
 use prog.Atomic.{either}
 use lib.ListN.{get_elem?}
 use Rattle.atomic_table.specs.Table.{step, Allows}
+use Rattle.atomic_table.proofs.Lists.{set_here}
 use Rattle.htss_defs.specs.declared.shape.Shape.{Shape}
 use Rattle.htss_defs.specs.declared.history.Event.{Event}
 use Rattle.board_core.specs.declared.account.Account.{Account}
@@ -27,8 +28,8 @@ use Rattle.board_core.specs.KnownRule.{no_rows}
 use Rattle.board_core.specs.Loaded.{page_word}
 use Rattle.board_core.specs.Holds.{Rule, Holds}
 use Rattle.board_core.specs.After.{visited, let_go, after_linked}
-use Rattle.board_core.specs.Steps.{Mine, Claims}
-use Rattle.board_core.proofs.Lists.{each_none, each_cons}
+use Rattle.board_core.specs.Steps.{Mine, Claims, LoadsMore}
+use Rattle.board_core.proofs.Lists.{each_none, each_cons, inside, set_twice}
 use Rattle.board_core.proofs.Everyone.{mine}
 use Rattle.board_core.proofs.PoolTree.{pool_links, none_parted, after_links}
 use Rattle.board_core.specs.PoolRule.{PoolRule}
@@ -39,7 +40,7 @@ use Rattle.board_core.proofs.Pooled.{LeavesLog}
 use Rattle.board_core.proofs.OwnFrame.{each_without}
 use Rattle.board_core.specs.OwnRule.{OwnFits}
 use Rattle.board_core.proofs.PageLoads.{at_visit}
-use Rattle.board_core.proofs.LoadPage.{known_here}
+use Rattle.board_core.proofs.LoadPage.{known_here, load_more, more_allowed}
 use Rattle.board_core.proofs.Linked.{keeps_linked, put_is, with_at, at_here, at_else, turned_in, one_more, link_tree, Left}
 use Rattle.board_core.proofs.Claimed.{HasOne, has_one, go_less, go_one, go_new, own_apart, own_busy, own_linked, rows_placed, own_row, row_below, row_free, some_entry}
 use Rattle.board_core.proofs.Treed.{by_tree, claim_allowed, page_past, busy_page}
@@ -49,7 +50,7 @@ use Rattle.board_core.specs.ClassTree.{chained}
 use Rattle.board_core.specs.NextPage.{after, MayChain}
 use Rattle.board_core.specs.Rows.{HasRow}
 use Rattle.board_core.specs.Loaded.{next_place}
-use Rattle.board_core.specs.After.{after_inner}
+use Rattle.board_core.specs.After.{after_inner, after_more}
 use Rattle.board_core.specs.Steps.{MayLinkNext, MayLinkMoreLeaf, MayLinkInner}
 use Rattle.board_core.proofs.RowFrame.{rows_same}
 use Rattle.board_core.proofs.Seen.{has_at}
@@ -98,7 +99,7 @@ module _ (k : Shape) (p : Parts) (h : List Event) (vs : List View) (id j n word 
     turn = turned_in k p.pool vs id v a r.pool at parted r.tree.tree.numbered less
 
     here : m x.page ≡ place_of x
-    here = ((known_here k p h vs id v r at).known.fits j x (at_visit v.me.tree.reached j may.visit.reached)).place l
+    here = ((known_here k p h vs id v r at).known.fits j x (at_visit v.me.tree.reached j may.load.visit.reached)).place l
 
     words : HasOne (p.pages n) (header_of (next_place x)) word
     words = has_one p.pages vs id n (header_of (next_place x)) word v r.own at may.new past
@@ -106,9 +107,9 @@ module _ (k : Shape) (p : Parts) (h : List Event) (vs : List View) (id j n word 
     -- the page is full
     full : (i : ℕ) → i < page_room (m x.page).leaf → p.pages x.page (slot_at (m x.page).leaf i) ≢ 0
     full i less e =
-        let fits = (known_here k p h vs id v r at).known.fits j x (at_visit v.me.tree.reached j may.visit.reached) in
+        let fits = (known_here k p h vs id v r at).known.fits j x (at_visit v.me.tree.reached j may.load.visit.reached) in
         let kind : (m x.page).leaf ≡ x.leaf = ap (λ (P : Place). P.leaf) here in
-        let size = may.full in
+        let size = may.load.full in
         let less_here : i < page_room x.leaf = subst (λ (b : Bool). i < page_room b) kind less in
         let f = has_at x.slots i (omega arith) in
         let g = fits.known i f.0 f.1 in
@@ -184,7 +185,7 @@ link_more_leaf k p h vs id j n q v r at may zero_word past some_n =
     let z : Sheet = sheet_of p.pool.states (set vs id (with_me v a)) in
     let m : ℕ → Place = r.tree.place in
     let u : ℕ → ℕ → ℕ = stored_page p.pages x.page 1 n in
-    let fits = (known_here k p h vs id v r at).known.fits j x (at_visit v.me.tree.reached j may.may.visit.reached) in
+    let fits = (known_here k p h vs id v r at).known.fits j x (at_visit v.me.tree.reached j may.may.load.visit.reached) in
     let deep = may.deep in
     let l : IsLinked s x.page = ⊎_elim (λ (o : IsLinked s x.page). o) (λ (o : IsFullLeaf (p.pages x.page) x). let low = o.low in absurd (omega arith)) (fits.old may.leaf) in
     let place = fits.place l in
@@ -192,20 +193,23 @@ link_more_leaf k p h vs id j n q v r at may zero_word past some_n =
     let rows = one_more vs id v a q at refl in
     let is_leaf : (m x.page).leaf ≡ true = ap (λ (P : Place). P.leaf) place ∙ may.leaf in
     let tree : Tree u z (new k p h vs id j n (entry_word q) v r at may.may zero_word past some_n some_word) (codes_in k p.regions) (IsPlaced (set vs id (with_me v a))) =
-      chains p.pages u s z m (new k p h vs id j n (entry_word q) v r at may.may zero_word past some_n some_word) (codes_in k p.regions) (IsPlaced vs) (IsPlaced (set vs id (with_me v a))) (Left v.me.pool.own a.pool.own) x.page n (entry_word q) r.tree.tree
-      (condition k p h vs id j n (entry_word q) v r at may.may zero_word past some_n some_word a refl refl l (λ _. deep) (λ inner. absurd (let clash : true ≡ false = sym may.leaf ∙ inner in cc)))
-      (put_is p.pages x.page 1 n)
-      (turn k p h vs id j n (entry_word q) v r at may.may zero_word past some_n some_word a refl refl l)
-      (one k p h vs id j n (entry_word q) v r at may.may zero_word past some_n some_word a refl refl l)
-      (left_new k p h vs id j n (entry_word q) v r at may.may zero_word past some_n some_word a refl refl l)
-      (places k p h vs id j n (entry_word q) v r at may.may zero_word past some_n some_word a refl refl l)
-      (at_here m n (after m x.page))
-      rows.old
-      (λ _. (record {
+    chains p.pages u s z m (new k p h vs id j n (entry_word q) v r at may.may zero_word past some_n some_word) (codes_in k p.regions) (IsPlaced vs) (IsPlaced (set vs id (with_me v a))) (Left v.me.pool.own a.pool.own) x.page n (entry_word q) r.tree.tree
+    (condition k p h vs id j n (entry_word q) v r at may.may zero_word past some_n some_word a refl refl l (λ _. deep) (λ inner. absurd (let clash : true ≡ false = sym may.leaf ∙ inner in cc)))
+    (put_is p.pages x.page 1 n)
+    (turn k p h vs id j n (entry_word q) v r at may.may zero_word past some_n some_word a refl refl l)
+    (one k p h vs id j n (entry_word q) v r at may.may zero_word past some_n some_word a refl refl l)
+    (left_new k p h vs id j n (entry_word q) v r at may.may zero_word past some_n some_word a refl refl l)
+    (places k p h vs id j n (entry_word q) v r at may.may zero_word past some_n some_word a refl refl l)
+    (at_here m n (after m x.page))
+    rows.old
+    (λ _. (
+      record {
         other = row_free k p h vs id v r at q may.row.begun may.row.fresh;
         below = subst (λ (P : Place). IsBelow P.path (codes_in k p.regions (entry_word q))) (sym place) (row_below k p h vs id v r at q x.path may.row.begun may.row.below);
-      }, rows.new))
-      (λ y g. ⊎_elim (λ (o : IsPlaced vs y). inl o) (λ (o : y ≡ entry_word q). inr (is_leaf, o)) (rows.all y g)) in
+      },
+      rows.new,
+    ))
+    (λ y g. ⊎_elim (λ (o : IsPlaced vs y). inl o) (λ (o : y ≡ entry_word q). inr (is_leaf, o)) (rows.all y g)) in
     next_rule k p h vs id j n (entry_word q) v r at may.may zero_word past some_n some_word a refl refl l
     record { who = refl; log = refl; room = refl; entries = refl; shown = refl; heads = refl; facts = refl; codes = refl; marks = refl } refl refl
     (rows_placed k vs id v a (q ∷ []) r.rows at refl refl refl refl (each_cons (λ y. In y v.me.tree.begun) q [] may.row.begun (each_none (λ y. In y v.me.tree.begun))))
@@ -221,42 +225,58 @@ link_inner k p h vs id j n c v r at may zero_word past some_n =
     let z : Sheet = sheet_of p.pool.states (set vs id (with_me v a)) in
     let m : ℕ → Place = r.tree.place in
     let u : ℕ → ℕ → ℕ = stored_page p.pages x.page 1 n in
-    let fits = (known_here k p h vs id v r at).known.fits j x (at_visit v.me.tree.reached j may.may.visit.reached) in
+    let fits = (known_here k p h vs id v r at).known.fits j x (at_visit v.me.tree.reached j may.may.load.visit.reached) in
     let l : IsLinked s x.page = fits.inner may.inner in
     let place = fits.place l in
     let some_word : c ≢ 0 = may.claim.some_c in
-    let size = may.may.full in
+    let size = may.may.load.full in
     let row = may.claim.row in
     let placed : (y : ℕ) → IsPlaced vs y → IsPlaced (set vs id (with_me v a)) y = rows_stay vs id v a at (λ y. y.tree.placed) refl in
-    let absent = chain_absent k p h vs id j c v r at may.may.visit.reached may.inner may.claim.absent (λ t past less. absurd (omega arith)) zero_word in
+    let absent = chain_absent k p h vs id j c v r at may.may.load.visit.reached may.inner may.claim.absent (λ t past less. absurd (omega arith)) zero_word in
     let tree : Tree u z (new k p h vs id j n c v r at may.may zero_word past some_n some_word) (codes_in k p.regions) (IsPlaced (set vs id (with_me v a))) =
-      chains p.pages u s z m (new k p h vs id j n c v r at may.may zero_word past some_n some_word) (codes_in k p.regions) (IsPlaced vs) (IsPlaced (set vs id (with_me v a))) (Left v.me.pool.own a.pool.own) x.page n c r.tree.tree
-      (condition k p h vs id j n c v r at may.may zero_word past some_n some_word a refl refl l (λ leaf. absurd (let clash : true ≡ false = sym leaf ∙ may.inner in cc)) (λ _. absent))
-      (put_is p.pages x.page 1 n)
-      (turn k p h vs id j n c v r at may.may zero_word past some_n some_word a refl refl l)
-      (one k p h vs id j n c v r at may.may zero_word past some_n some_word a refl refl l)
-      (left_new k p h vs id j n c v r at may.may zero_word past some_n some_word a refl refl l)
-      (places k p h vs id j n c v r at may.may zero_word past some_n some_word a refl refl l)
-      (at_here m n (after m x.page))
-      placed
-      (λ leaf. absurd (let clash : true ≡ false = sym leaf ∙ (ap (λ (P : Place). P.leaf) place ∙ may.inner) in cc))
-      (λ y g. inl (⊎_elim (λ (o : IsPlaced vs y). o) (λ (o : HasRow y v.me.tree.placed). (id, v, at, 0, v.me, refl, o)) (placed_split vs id v a at y g))) in
+    chains p.pages u s z m (new k p h vs id j n c v r at may.may zero_word past some_n some_word) (codes_in k p.regions) (IsPlaced vs) (IsPlaced (set vs id (with_me v a))) (Left v.me.pool.own a.pool.own) x.page n c r.tree.tree
+    (condition k p h vs id j n c v r at may.may zero_word past some_n some_word a refl refl l (λ leaf. absurd (let clash : true ≡ false = sym leaf ∙ may.inner in cc)) (λ _. absent))
+    (put_is p.pages x.page 1 n)
+    (turn k p h vs id j n c v r at may.may zero_word past some_n some_word a refl refl l)
+    (one k p h vs id j n c v r at may.may zero_word past some_n some_word a refl refl l)
+    (left_new k p h vs id j n c v r at may.may zero_word past some_n some_word a refl refl l)
+    (places k p h vs id j n c v r at may.may zero_word past some_n some_word a refl refl l)
+    (at_here m n (after m x.page))
+    placed
+    (λ leaf. absurd (let clash : true ≡ false = sym leaf ∙ (ap (λ (P : Place). P.leaf) place ∙ may.inner) in cc))
+    (λ y g. inl (⊎_elim (λ (o : IsPlaced vs y). o) (λ (o : HasRow y v.me.tree.placed). (id, v, at, 0, v.me, refl, o)) (placed_split vs id v a at y g))) in
     next_rule k p h vs id j n c v r at may.may zero_word past some_n some_word a refl refl l
     record { who = refl; log = refl; room = refl; entries = refl; shown = refl; heads = refl; facts = refl; codes = refl; marks = refl } refl refl
     (rows_same k vs id v a r.rows at refl refl refl refl refl)
     (next_tree k p h vs id j n c v r at may.may zero_word past some_n some_word a refl refl l refl refl refl placed tree
-      (λ _. (entry_word row, (id, v, at, 0, v.me, refl, (row, may.claim.begun, refl)), row_below k p h vs id v r at row (x.path ++ c ∷ []) may.claim.begun may.claim.below)))
+    (λ _. (entry_word row, (id, v, at, 0, v.me, refl, (row, may.claim.begun, refl)), row_below k p h vs id v r at row (x.path ++ c ∷ []) may.claim.begun may.claim.below)))
 
-pub more_leaf_allowed : (k : Shape) (slots id j n at_word : ℕ) (q : Row) (m : Mine) → at_word ≡ page_word k (visited m.0.me.tree.reached j).page 1 → MayLinkMoreLeaf k m.0.me j n q
-    → Allows (Holds k) slots id m at_word (λ f. either (f == 0) n f) (Claims (after_linked m.0.me n (q ∷ [])) (step slots at_word 0 n none) m)
-more_leaf_allowed k slots id j n at_word q m is may =
-    claim_allowed k slots id (visited m.0.me.tree.reached j).page 1 n at_word m (after_linked m.0.me n (q ∷ [])) is may.may.visit.inside (omega arith)
+pub more_leaf_allowed : (k : Shape) (slots id j n at_word : ℕ) (q : Row) (m : Mine) → at_word ≡ page_word k (visited m.0.me.tree.reached j).page 1 → m.0.shape ≡ k → MayLinkMoreLeaf k m.0.me j n q
+    → Allows (Holds k) slots id m at_word (λ f. either (f == 0) n f) (Claims (after_linked m.0.me n (q ∷ [])) (LoadsMore j) (step slots at_word 0 n none) m)
+more_leaf_allowed k slots id j n at_word q m is shape may =
+    claim_allowed k slots id (visited m.0.me.tree.reached j).page 1 n at_word m (after_linked m.0.me n (q ∷ [])) (LoadsMore j) is may.may.load.visit.inside (omega arith)
     (λ s h at word. link_more_leaf k (parts_of k s.words) (history_of k (parts_of k s.words)) s.views id j n q m.0 h.rule at may word (page_past k s.words n)
-      (let page = busy_page k s.words n (own_busy k (parts_of k s.words).pool s.views id n m.0 h.rule.pool at may.may.new.own) in let above = page.0 in λ z. omega arith))
+    (let page = busy_page k s.words n (own_busy k (parts_of k s.words).pool s.views id n m.0 h.rule.pool at may.may.new.own) in let above = page.0 in λ z. omega arith))
+    (more_allowed k slots id j at_word n m is shape may.may.load)
 
-pub inner_allowed : (k : Shape) (slots id j n c at_word : ℕ) (m : Mine) → at_word ≡ page_word k (visited m.0.me.tree.reached j).page 1 → MayLinkInner k m.0.me j n c
-    → Allows (Holds k) slots id m at_word (λ f. either (f == 0) n f) (Claims (after_inner m.0.me n) (step slots at_word 0 n none) m)
-inner_allowed k slots id j n c at_word m is may =
-    claim_allowed k slots id (visited m.0.me.tree.reached j).page 1 n at_word m (after_inner m.0.me n) is may.may.visit.inside (omega arith)
-    (λ s h at word. link_inner k (parts_of k s.words) (history_of k (parts_of k s.words)) s.views id j n c m.0 h.rule at may word (page_past k s.words n)
-      (let page = busy_page k s.words n (own_busy k (parts_of k s.words).pool s.views id n m.0 h.rule.pool at may.may.new.own) in let above = page.0 in λ z. omega arith))
+-- the page that was linked is loaded as the next one in the same step
+pub link_inner_loaded : (k : Shape) (p : Parts) (h : List Event) (vs : List View) (id j n c : ℕ) (v : View) → Rule k p h vs → get_elem? vs id ≡ some v → MayLinkInner k v.me j n c
+    → p.pages (visited v.me.tree.reached j).page 1 ≡ 0 → ((t : ℕ) → 16 ≤ t → p.pages n t ≡ 0) → n ≢ 0
+    → Rule k (record p { pages = stored_page p.pages (visited v.me.tree.reached j).page 1 n }) h (set vs id (with_me v (after_more (after_inner v.me n) j n)))
+link_inner_loaded k p h vs id j n c v r at may zero_word past some_n =
+    let b : Account = after_inner v.me n in
+    let x : Reached = visited v.me.tree.reached j in
+    let l = may.may.load in
+    subst (λ (l : List View). Rule k (record p { pages = stored_page p.pages x.page 1 n }) h l) (set_twice vs id (with_me v b) (with_me v (after_more b j n)))
+    (load_more k (record p { pages = stored_page p.pages x.page 1 n }) h (set vs id (with_me v b)) id (with_me v b)
+    (link_inner k p h vs id j n c v r at may zero_word past some_n) (set_here vs id (with_me v b) (inside vs id v at)) j n
+    record { visit = record { reached = l.visit.reached; inside = l.visit.inside }; pinned = l.pinned; full = l.full; not_zero = l.not_zero }
+    (put_is p.pages x.page 1 n).here)
+
+pub inner_allowed : (k : Shape) (slots id j n c at_word : ℕ) (m : Mine) → at_word ≡ page_word k (visited m.0.me.tree.reached j).page 1 → m.0.shape ≡ k → MayLinkInner k m.0.me j n c
+    → Allows (Holds k) slots id m at_word (λ f. either (f == 0) n f) (Claims (after_more (after_inner m.0.me n) j n) (LoadsMore j) (step slots at_word 0 n none) m)
+inner_allowed k slots id j n c at_word m is shape may =
+    claim_allowed k slots id (visited m.0.me.tree.reached j).page 1 n at_word m (after_more (after_inner m.0.me n) j n) (LoadsMore j) is may.may.load.visit.inside (omega arith)
+    (λ s h at word. link_inner_loaded k (parts_of k s.words) (history_of k (parts_of k s.words)) s.views id j n c m.0 h.rule at may word (page_past k s.words n)
+    (let page = busy_page k s.words n (own_busy k (parts_of k s.words).pool s.views id n m.0 h.rule.pool at may.may.new.own) in let above = page.0 in λ z. omega arith))
+    (more_allowed k slots id j at_word n m is shape may.may.load)

@@ -1,30 +1,31 @@
 -- A code of an own row is loaded, and a row is begun.
-use Rattle.std.proofs.Common.{◌≡◌, ℕ, zero, suc, ◌+◌, ◌-◌, ◌<◌, ◌≤◌, List, [], ◌∷◌, ◌++◌, set, get_or, sym, refl, ap, ◌∙◌, subst, arith, inl, ⊎_elim}
+use Rattle.std.proofs.Common.{◌≡◌, ℕ, zero, suc, ◌+◌, ◌*◌, ◌-◌, ◌%◌, ◌^◌, ◌<◌, ◌≤◌, List, [], ◌∷◌, ◌++◌, set, get_or, sym, refl, ap, ◌∙◌, subst, arith, inl, ⊎_elim}
 use mathlib.Core.Option.{some, none, some-ne-none}
 use lib.ListN.{get_elem?}
 use Rattle.atomic_table.specs.Table.{step, keeps, Allows}
-use Rattle.atomic_table.proofs.Lists.{set_here}
+use Rattle.atomic_table.proofs.Lists.{set_here, set_again}
 use Rattle.htss_defs.specs.declared.shape.Shape.{Shape}
 use Rattle.htss_defs.specs.declared.history.Event.{Event}
 use Rattle.board_core.specs.declared.account.Account.{Account}
 use Rattle.board_core.specs.declared.account.View.{View}
 use Rattle.board_core.specs.declared.loads.CodeLoad.{CodeLoad}
 use Rattle.board_core.specs.declared.room.Row.{Row}
+use Rattle.board_core.specs.Each.{In}
 use Rattle.board_core.specs.Words.{Parts, parts_of, total_of}
 use Rattle.board_core.specs.Blocks.{atoms_in, block_size}
 use Rattle.board_core.specs.Histories.{block_at, history_of}
 use Rattle.board_core.specs.Records.{code_word_at}
 use Rattle.board_core.specs.Accounts.{with_me, EachAccount}
-use Rattle.board_core.specs.RoomRule.{store_of, own_block, RoomFits}
+use Rattle.board_core.specs.RoomRule.{store_of, own_block, IsSealed, RoomFits}
 use Rattle.board_core.specs.FactRule.{FactRule, CodeStands, IsCodeOf, BlocksStand, AreOfBlocks, word_at}
 use Rattle.board_core.specs.Sheets.{Sheet, sheet_of}
-use Rattle.board_core.specs.Rows.{code_of, codes_in, words_of, RowFits, IsOwnRow, RowsFit, RowRule, HasRow, IsBegun, IsPlaced}
+use Rattle.board_core.specs.Rows.{entry_word, code_of, codes_in, words_of, RowFits, IsOwnRow, RowsFit, RowRule, HasRow, IsBegun, IsPlaced}
 use Rattle.board_core.specs.KnownRule.{Knows, no_rows}
 use Rattle.board_core.specs.TreeRule.{TreeRule}
 use Rattle.board_core.specs.Holds.{Rule, Holds}
 use Rattle.board_core.specs.After.{after_code, after_begun}
-use Rattle.board_core.specs.Steps.{Mine, MayLoadOwn, LoadsOwnCode, BeginsRow}
-use Rattle.board_core.proofs.Lists.{each_snoc, inside}
+use Rattle.board_core.specs.Steps.{Mine, MayLoadOwn, LoadsOwnCode, BeginsRow, LoadsOwnHead}
+use Rattle.board_core.proofs.Lists.{each_snoc, inside, set_twice}
 use Rattle.board_core.proofs.Everyone.{mine, changed}
 use Rattle.board_core.proofs.Some.{some_changed}
 use Rattle.board_core.proofs.BlockWords.{ShowSame}
@@ -46,8 +47,11 @@ use Rattle.board_core.proofs.Treed.{by_tree}
 
 -- ---- the words of an own block
 
+sealed_stands : (k : Shape) (regions : ℕ → ℕ) (a : Account) (block : ℕ) → RoomFits k regions (store_of a) → IsSealed a.room.sealed block → ShowSame (words_of k a.who a.room.used block) (block_at k regions block)
+sealed_stands k regions a block f (j, s, there, place) = subst (λ (b : ℕ). ShowSame (own_block k (store_of a) b) (block_at k regions b)) place (block_stands k regions (store_of a) j s f there)
+
 own_stands : (k : Shape) (regions : ℕ → ℕ) (a : Account) (r : Row) → RoomFits k regions (store_of a) → IsOwnRow k a r → ShowSame (words_of k a.who a.room.used r.block) (block_at k regions r.block)
-own_stands k regions a r f fits = let (j, s, there, place) = fits.sealed in subst (λ (b : ℕ). ShowSame (own_block k (store_of a) b) (block_at k regions b)) place (block_stands k regions (store_of a) j s f there)
+own_stands k regions a r f fits = sealed_stands k regions a r.block f fits.sealed
 
 less_atom : (atoms atom : ℕ) → 0 < atom → atom ≤ atoms → atom - 1 < atoms
 less_atom atoms atom above most = omega arith
@@ -121,7 +125,7 @@ begin_tree k f w c old vs id q v at was r =
       codes = λ _ _. refl;
       placed = was;
     } r (λ all. changed (λ x. Knows w z r.place c (IsPlaced ws) old x.tree) vs id v a at
-      (knows_moved w s z r.place c c (IsPlaced vs) (IsPlaced ws) old old (linked_same s z sheet) (linked_same z s (sym sheet)) plus (λ _ _. refl) a.tree (λ _ o. o) mine_now) all)
+    (knows_moved w s z r.place c c (IsPlaced vs) (IsPlaced ws) old old (linked_same s z sheet) (linked_same z s (sym sheet)) plus (λ _ _. refl) a.tree (λ _ o. o) mine_now) all)
 
 pub begin_row : (k : Shape) (p : Parts) (h : List Event) (vs : List View) (id : ℕ) (q : Row) (v : View) → Rule k p h vs → get_elem? vs id ≡ some v → IsOwnRow k v.me q → Rule k p h (set vs id (with_me v (after_begun v.me q)))
 begin_row k p h vs id q v r at fits =
@@ -134,17 +138,23 @@ begin_row k p h vs id q v r at fits =
     (same_pages p.pages (sheet_of p.pool.states vs) (sheet_of p.pool.states (set vs id (with_me v a))) (linked_kept p.pool.states vs id v a at (λ _. refl) (λ _. refl)))
     (begin_tree k p.pool.states p.pages (codes_in k p.regions) no_rows vs id q v at (λ n. placed_begun k vs n r.rows) r.tree)
 
-set_twice : (vs : List View) (id : ℕ) (x y : View) → set (set vs id x) id y ≡ set vs id y
-set_twice [] id x y = refl
-set_twice (v ∷ vs) zero x y = refl
-set_twice (v ∷ vs) (suc id) x y = ap (λ l. v ∷ l) (set_twice vs id x y)
-
 pub begin : (k : Shape) (p : Parts) (h : List Event) (vs : List View) (id code : ℕ) (q : Row) (v : View) → Rule k p h vs → get_elem? vs id ≡ some v → IsOwnRow k v.me q → code < 5
     → Rule k p h (set vs id (with_me v (after_begun (after_code v.me q code (code_of (block_at k p.regions q.block) q.atom code)) q)))
 begin k p h vs id code q v r at fits few =
     let a : Account = after_code v.me q code (code_of (block_at k p.regions q.block) q.atom code) in
     subst (λ (l : List View). Rule k p h l) (set_twice vs id (with_me v a) (with_me v (after_begun a q)))
     (begin_row k p h (set vs id (with_me v a)) id q (with_me v a) (load_own_code k p h vs id code q v r at fits few) (set_here vs id (with_me v a) (inside vs id v at)) fits)
+
+-- ---- the word that names a row
+
+small_atom : (k : Shape) (a : Account) (r : Row) → IsOwnRow k a r → r.atom < 2 ^ 10
+small_atom k a r fits = let most : r.atom ≤ words_of k a.who a.room.used r.block 0 % 2 ^ 10 = fits.atom in let less : words_of k a.who a.room.used r.block 0 % 2 ^ 10 < 2 ^ 10 = omega arith in omega arith
+
+same_row : (r q : Row) → r.atom < 2 ^ 10 → q.atom < 2 ^ 10 → entry_word r ≡ entry_word q → r ≡ q
+same_row r q small less is =
+    let e : r.block * 2 ^ 10 + r.atom ≡ q.block * 2 ^ 10 + q.atom = is in
+    let block : r.block ≡ q.block = omega arith in
+    let atom : r.atom ≡ q.atom = omega arith in λ i. record { block = block i; atom = atom i }
 
 -- ---- as the table asks
 
@@ -179,6 +189,12 @@ module _ (k : Shape) (slots id place head code : ℕ) (q : Row) (m : Mine) (is :
         record { after = refl; stored_is = told_own s h at },
       )
 
+  told_alone : (s : _) → Holds k s → get_elem? s.views id ≡ some m.0 → HasRow (entry_word q) m.0.me.tree.placed → In q m.0.me.tree.placed
+  told_alone s h at (r, (j, there), is) =
+      let fits = mine (λ x. RowsFit k x.who x.room.used x.room.sealed x.tree) s.views id m.0 at h.rule.rows in
+      let began = fits.placed j r there in
+      (j, there ∙ ap some (same_row r q (small_atom k m.0.me r (fits.begun began.0 r began.1)) (small_atom k m.0.me q may.row_is) is))
+
   pub begin_allowed : Allows (Holds k) slots id m place (λ n. n) (BeginsRow q code (step slots place 0 0 none) m)
   begin_allowed s h _ at _ =
       let p : Parts = parts_of k s.words in
@@ -188,5 +204,27 @@ module _ (k : Shape) (slots id place head code : ℕ) (q : Row) (m : Mine) (is :
         tt,
         still k s place id m.1 m.0 (after_begun (after_code m.0.me q code found) q) h
             (subst (λ (n : ℕ). Rule k p (history_of k p) (set s.views id (with_me m.0 (after_begun (after_code m.0.me q code n) q)))) (found_own s h at) (begin k p (history_of k p) s.views id code q m.0 h.rule at may.row_is may.code_is)),
-        record { after = refl; stored_is = told_own s h at },
+        record { after = refl; stored_is = told_own s h at; alone = told_alone s h at },
       )
+
+-- ---- the first word of an own block
+
+pub own_head_allowed : (k : Shape) (slots id place : ℕ) (m : Mine) → IsSealed m.0.me.room.sealed place → m.0.shape ≡ k → Allows (Holds k) slots id m place (λ n. n) (LoadsOwnHead place (step slots place 0 0 none) m)
+own_head_allowed k slots id place m sealed shape s h _ at _ =
+    let p : Parts = parts_of k s.words in
+    let found : ℕ = get_or s.words place 0 in
+    let f = mine (λ x. RoomFits k p.regions (store_of x)) s.views id m.0 at h.rule.rooms.rooms in
+    let fits = sealed_in_table k p.regions s.views place h.rule.seats h.rule.rooms.rooms (id, m.0, at, 0, m.0.me, refl, sealed) in
+    let from = fits.0.from in
+    let until = fits.0.until in
+    let there : block_at k p.regions place 0 ≡ found = (let e : place + 0 ≡ place = omega arith in ap (word_at k p.regions) e) ∙ found_at k s.words place (omega arith) (omega arith) in (
+      m.0,
+      keeps,
+      tt,
+      still k s place id m.1 m.0 m.0.me h (subst (λ (l : List View). Rule k p (history_of k p) l) (sym (set_again s.views id m.0 at)) h.rule),
+      record {
+        same = refl;
+        stored_is = sym there ∙ ((sealed_stands k p.regions m.0.me place f sealed).head ∙ ap (λ (z : Shape). words_of z m.0.me.who m.0.me.room.used place 0) (sym shape));
+        until = subst (λ (z : Shape × ℕ). place + block_size z.1 ≤ total_of z.0) (λ i. (sym shape i, there i)) fits.1;
+      },
+    )

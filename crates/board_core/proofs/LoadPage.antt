@@ -18,7 +18,7 @@ use Rattle.board_core.specs.Held.{held_in, leaf_of}
 use Rattle.board_core.specs.Sheets.{sheet_of, IsLinked}
 use Rattle.board_core.specs.MarkRule.{IsAmong}
 use Rattle.board_core.specs.Rows.{codes_in, IsPlaced}
-use Rattle.board_core.specs.ClassTree.{slot_at, page_room, header_of}
+use Rattle.board_core.specs.ClassTree.{slot_at, page_room, header_of, PageStands}
 use Rattle.board_core.specs.KnownPages.{place_of}
 use Rattle.board_core.specs.KnownRule.{Knows, no_rows}
 use Rattle.board_core.specs.Loaded.{IsPage, page_word, IsVisit}
@@ -94,6 +94,14 @@ module _ (k : Shape) (p : Parts) (h : List Event) (vs : List View) (id : ℕ) (v
   pub load_header : (j : ℕ) → j < length v.me.tree.reached → p.pages (visited v.me.tree.reached j).page 0 ≡ header_of (place_of (visited v.me.tree.reached j))
   load_header j within = law_header p.pages (sheet_of p.pool.states vs) r.tree.place (codes_in k p.regions) (IsPlaced vs) no_rows r.tree.tree v.me.tree known_here j within
 
+  -- an inner page stands above depth 5
+  pub inner_high : (j : ℕ) → j < length v.me.tree.reached → (visited v.me.tree.reached j).leaf ≡ false → length (visited v.me.tree.reached j).path < 5
+  inner_high j within inner =
+      let x : Reached = visited v.me.tree.reached j in
+      let fits = known_here.known.fits j x (at_visit v.me.tree.reached j within) in
+      let l = fits.inner inner in
+      let page : PageStands (p.pages x.page) (place_of x) = subst (PageStands (p.pages x.page)) (fits.place l) (r.tree.tree.pages x.page l) in page.shallow inner
+
   pub load_slot : (j n : ℕ) → MayLoadSlot k v.me j → p.pages (visited v.me.tree.reached j).page (slot_at (visited v.me.tree.reached j).leaf (length (visited v.me.tree.reached j).slots)) ≡ n → Rule k p h (set vs id (with_me v (after_slot v.me j n)))
   load_slot j n may word =
       let within = may.visit.reached in
@@ -114,9 +122,9 @@ module _ (k : Shape) (p : Parts) (h : List Event) (vs : List View) (id : ℕ) (v
       let l = link_linked p.pages (sheet_of p.pool.states vs) r.tree.place (codes_in k p.regions) (IsPlaced vs) no_rows r.tree.tree v.me.tree known_here j within i c may.inner may.code may.not_zero may.unread (suc n) word (λ e. omega arith) in
       knows_more (set v.me.tree.reached j (with_link i (To (suc n)) x) ++ z ∷ [])
       (λ t q e. ⊎_elim
-        (λ (o : IsAmong (held_in (set v.me.tree.reached j (with_link i (To (suc n)) x))) q). inl (same_held j (with_link i (To (suc n)) x) within refl refl o.0 q o.1))
-        (λ (o : q ≡ z.page). inr (may.pinned, subst (λ (y : ℕ). IsLinked (sheet_of p.pool.states vs) y) (sym o) l))
-        (held_snoc (set v.me.tree.reached j (with_link i (To (suc n)) x)) z t q e))
+      (λ (o : IsAmong (held_in (set v.me.tree.reached j (with_link i (To (suc n)) x))) q). inl (same_held j (with_link i (To (suc n)) x) within refl refl o.0 q o.1))
+      (λ (o : q ≡ z.page). inr (may.pinned, subst (λ (y : ℕ). IsLinked (sheet_of p.pool.states vs) y) (sym o) l))
+      (held_snoc (set v.me.tree.reached j (with_link i (To (suc n)) x)) z t q e))
       (law_link p.pages (sheet_of p.pool.states vs) r.tree.place (codes_in k p.regions) (IsPlaced vs) no_rows r.tree.tree v.me.tree known_here j within i c may.inner may.code may.not_zero may.unread (suc n) word (λ e. omega arith))
 
   pub load_more : (j n : ℕ) → MayLoadMore k v.me j → p.pages (visited v.me.tree.reached j).page 1 ≡ n → Rule k p h (set vs id (with_me v (after_more v.me j n)))
@@ -132,9 +140,9 @@ module _ (k : Shape) (p : Parts) (h : List Event) (vs : List View) (id : ℕ) (v
       let l = (next_linked p.pages (sheet_of p.pool.states vs) r.tree.place (codes_in k p.regions) (IsPlaced vs) no_rows r.tree.tree v.me.tree known_here j within may.full may.not_zero (suc n) word (λ e. omega arith)).0 in
       knows_more (set v.me.tree.reached j (with_more (To (suc n)) x) ++ z ∷ [])
       (λ t q e. ⊎_elim
-        (λ (o : IsAmong (held_in (set v.me.tree.reached j (with_more (To (suc n)) x))) q). inl (same_held j (with_more (To (suc n)) x) within refl refl o.0 q o.1))
-        (λ (o : q ≡ z.page). inr (may.pinned, subst (λ (y : ℕ). IsLinked (sheet_of p.pool.states vs) y) (sym o) l))
-        (held_snoc (set v.me.tree.reached j (with_more (To (suc n)) x)) z t q e))
+      (λ (o : IsAmong (held_in (set v.me.tree.reached j (with_more (To (suc n)) x))) q). inl (same_held j (with_more (To (suc n)) x) within refl refl o.0 q o.1))
+      (λ (o : q ≡ z.page). inr (may.pinned, subst (λ (y : ℕ). IsLinked (sheet_of p.pool.states vs) y) (sym o) l))
+      (held_snoc (set v.me.tree.reached j (with_more (To (suc n)) x)) z t q e))
       (law_more p.pages (sheet_of p.pool.states vs) r.tree.place (codes_in k p.regions) (IsPlaced vs) no_rows r.tree.tree v.me.tree known_here j within may.full may.not_zero (suc n) word (λ e. omega arith))
 
   -- where a link or the next page leads
@@ -170,16 +178,16 @@ header_allowed k slots id j at_word m is visit s h _ at _ =
       keeps,
       tt,
       still k s at_word id m.1 m.0 m.0.me h (subst (λ (l : List View). Rule k p (history_of k p) l) (sym (set_again s.views id m.0 at)) h.rule),
-      record { same = refl; header = sym same ∙ load_header k p (history_of k p) s.views id m.0 h.rule at j visit.reached },
+      record { same = refl; header = sym same ∙ load_header k p (history_of k p) s.views id m.0 h.rule at j visit.reached; shallow = inner_high k p (history_of k p) s.views id m.0 h.rule at j visit.reached },
     )
 
-pub slot_allowed : (k : Shape) (slots id j at_word : ℕ) (m : Mine) → at_word ≡ page_word k (visited m.0.me.tree.reached j).page (slot_at (visited m.0.me.tree.reached j).leaf (length (visited m.0.me.tree.reached j).slots)) → MayLoadSlot k m.0.me j
-    → Allows (Holds k) slots id m at_word (λ n. n) (LoadsSlot j (step slots at_word 0 0 none) m)
-slot_allowed k slots id j at_word m is may s h _ at _ =
+pub slot_allowed : (k : Shape) (slots id j at_word x : ℕ) (m : Mine) → at_word ≡ page_word k (visited m.0.me.tree.reached j).page (slot_at (visited m.0.me.tree.reached j).leaf (length (visited m.0.me.tree.reached j).slots)) → MayLoadSlot k m.0.me j
+    → Allows (Holds k) slots id m at_word (λ n. n) (LoadsSlot j (step slots at_word 0 x none) m)
+slot_allowed k slots id j at_word x m is may s h _ at _ =
     let p : Parts = parts_of k s.words in
-    let x : Reached = visited m.0.me.tree.reached j in
+    let y : Reached = visited m.0.me.tree.reached j in
     let found : ℕ = get_or s.words at_word 0 in
-    let same : p.pages x.page (slot_at x.leaf (length x.slots)) ≡ found = page_at k s.words x.page (slot_at x.leaf (length x.slots)) may.visit.inside (slot_small x.leaf (length x.slots) may.room) ∙ ap (λ (z : ℕ). get_or s.words z 0) (sym is) in (
+    let same : p.pages y.page (slot_at y.leaf (length y.slots)) ≡ found = page_at k s.words y.page (slot_at y.leaf (length y.slots)) may.visit.inside (slot_small y.leaf (length y.slots) may.room) ∙ ap (λ (z : ℕ). get_or s.words z 0) (sym is) in (
       with_me m.0 (after_slot m.0.me j found),
       keeps,
       tt,
@@ -187,13 +195,13 @@ slot_allowed k slots id j at_word m is may s h _ at _ =
       refl,
     )
 
-pub link_allowed : (k : Shape) (slots id j i c at_word : ℕ) (m : Mine) → at_word ≡ page_word k (visited m.0.me.tree.reached j).page (3 + 2 * i) → i < 7 → m.0.shape ≡ k → MayLoadLink k m.0.me j i c
-    → Allows (Holds k) slots id m at_word (λ n. n) (LoadsLink j i c (step slots at_word 0 0 none) m)
-link_allowed k slots id j i c at_word m is small shape may s h _ at _ =
+pub link_allowed : (k : Shape) (slots id j i c at_word x : ℕ) (m : Mine) → at_word ≡ page_word k (visited m.0.me.tree.reached j).page (3 + 2 * i) → i < 7 → m.0.shape ≡ k → MayLoadLink k m.0.me j i c
+    → Allows (Holds k) slots id m at_word (λ n. n) (LoadsLink j i c (step slots at_word 0 x none) m)
+link_allowed k slots id j i c at_word x m is small shape may s h _ at _ =
     let p : Parts = parts_of k s.words in
-    let x : Reached = visited m.0.me.tree.reached j in
+    let y : Reached = visited m.0.me.tree.reached j in
     let found : ℕ = get_or s.words at_word 0 in
-    let same : p.pages x.page (3 + 2 * i) ≡ found = page_at k s.words x.page (3 + 2 * i) may.visit.inside (omega arith) ∙ ap (λ (z : ℕ). get_or s.words z 0) (sym is) in
+    let same : p.pages y.page (3 + 2 * i) ≡ found = page_at k s.words y.page (3 + 2 * i) may.visit.inside (omega arith) ∙ ap (λ (z : ℕ). get_or s.words z 0) (sym is) in
     let leaf : Bool = (h.rule.tree.place found).leaf in (
       with_me m.0 (after_link m.0.me j i c found leaf),
       keeps,
@@ -206,13 +214,13 @@ link_allowed k slots id j i c at_word m is small shape may s h _ at _ =
       },
     )
 
-pub more_allowed : (k : Shape) (slots id j at_word : ℕ) (m : Mine) → at_word ≡ page_word k (visited m.0.me.tree.reached j).page 1 → m.0.shape ≡ k → MayLoadMore k m.0.me j
-    → Allows (Holds k) slots id m at_word (λ n. n) (LoadsMore j (step slots at_word 0 0 none) m)
-more_allowed k slots id j at_word m is shape may s h _ at _ =
+pub more_allowed : (k : Shape) (slots id j at_word x : ℕ) (m : Mine) → at_word ≡ page_word k (visited m.0.me.tree.reached j).page 1 → m.0.shape ≡ k → MayLoadMore k m.0.me j
+    → Allows (Holds k) slots id m at_word (λ n. n) (LoadsMore j (step slots at_word 0 x none) m)
+more_allowed k slots id j at_word x m is shape may s h _ at _ =
     let p : Parts = parts_of k s.words in
-    let x : Reached = visited m.0.me.tree.reached j in
+    let y : Reached = visited m.0.me.tree.reached j in
     let found : ℕ = get_or s.words at_word 0 in
-    let same : p.pages x.page 1 ≡ found = page_at k s.words x.page 1 may.visit.inside (omega arith) ∙ ap (λ (z : ℕ). get_or s.words z 0) (sym is) in (
+    let same : p.pages y.page 1 ≡ found = page_at k s.words y.page 1 may.visit.inside (omega arith) ∙ ap (λ (z : ℕ). get_or s.words z 0) (sym is) in (
       with_me m.0 (after_more m.0.me j found),
       keeps,
       tt,
@@ -220,6 +228,6 @@ more_allowed k slots id j at_word m is shape may s h _ at _ =
       record {
         after = refl;
         page = λ some_n. subst (λ (z : Shape). IsPage z found) (sym shape) (busy_page k s.words found (more_leads k p (history_of k p) s.views id m.0 h.rule at j found may same some_n).0);
-        rank = λ some_n. subst (λ (z : Shape). x.rank + 1 < z.chain) (sym shape) (more_leads k p (history_of k p) s.views id m.0 h.rule at j found may same some_n).1;
+        rank = λ some_n. subst (λ (z : Shape). y.rank + 1 < z.chain) (sym shape) (more_leads k p (history_of k p) s.views id m.0 h.rule at j found may same some_n).1;
       },
     )

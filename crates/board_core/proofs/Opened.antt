@@ -155,7 +155,7 @@ opens_tree k some_page =
     let states : drop (states_at k) (opening_words k) ≡ from_states = ap (λ n. drop n (opening_words k)) (let e : states_at k ≡ suc (suc (suc count)) = omega arith in e) ∙ drop_zeros count from_states in
     let pages : k.pages ≡ suc (k.pages - 1) = omega arith in
     let root : drop (pages_at k) (opening_words k) ≡ from_root = ap (λ n. drop n (opening_words k)) (let e : pages_at k ≡ suc (suc (suc (count + suc (k.pages - 1)))) = omega arith in e)
-        ∙ (drop_past count (suc (k.pages - 1)) from_states ∙ drop_zeros (k.pages - 1) from_root) in
+    ∙ (drop_past count (suc (k.pages - 1)) from_states ∙ drop_zeros (k.pages - 1) from_root) in
     let wide : 16 * k.pages ≡ suc (16 * k.pages - 1) = omega arith in record {
       head = (λ t. get_or (take (wide t) (root t)) 0 0);
       blank = λ i above. unless (nat_lt i 16) (part (pages_at k) (16 * k.pages) (opening_words k) (0 + i)) (ap (λ (l : List ℕ). get_or (take (16 * k.pages) l) (0 + i) 0) root ∙ head_of_root (16 * k.pages) (0 + i) (zeros tail) (blank_at tail) (omega arith));

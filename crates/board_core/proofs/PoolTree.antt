@@ -39,7 +39,7 @@ pool_reaches k w vs id v t r at news =
     let s : Sheet = sheet_of w.states vs in
     let old = claim_here k w vs id v r at in
     let by : (n : ℕ) → AreLater s n (held_in v.me.tree.reached) → AreLater s n (held_in t.reached) = λ n o j q h above.
-        ⊎_elim (λ (y : IsAmong (held_in v.me.tree.reached) q). o y.0 q y.1 above) (λ (y : (0 < v.me.pool.announced) × IsLinked s q). let plain = linked_plain w.states vs q y.1 in absurd (omega arith)) (news j q h) in
+    ⊎_elim (λ (y : IsAmong (held_in v.me.tree.reached) q). o y.0 q y.1 above) (λ (y : (0 < v.me.pool.announced) × IsLinked s q). let plain = linked_plain w.states vs q y.1 in absurd (omega arith)) (news j q h) in
     pool_claim k w vs id v r at w (record v.me { tree = t }) (λ p. refl) refl refl (omega arith) r.epochs.most refl (λ x _ _. refl) (λ j _. refl)
     record { stored = old.stored; idle = old.idle; past = old.past; epochs = old.epochs; risen = old.risen; first = old.first; low = old.low }
     (λ j q h. ⊎_elim (λ (y : IsAmong (held_in v.me.tree.reached) q). held_here k w vs id v r at y.0 q y.1) (λ (y : (0 < v.me.pool.announced) × IsLinked s q). linked_held w.states vs v.me.pool.announced q y.0 y.1) (news j q h))
@@ -68,15 +68,15 @@ pool_links k w vs id v os us t r at go same =
     let stamped_same : (q : ℕ) → z.stamped q ≡ s.stamped q = λ q. total_same (λ x. stamps q x.pool.parted) vs id v b at (go.stamps q) in
     pool_claimed k w vs id v r at w.states b (ap (λ (l : List ℕ). record (claim_of k v.me) { held = l }) same) refl
     (λ q. let fits = r.pages q in let once = fits.once in let past = fits.past in let less = owned_less q in let d = stamped_same q in
-      let e : z.parted q + parts q v.me.pool.parted ≡ s.parted q + parts q us = total_changed (λ x. parts q x.pool.parted) vs id v b at in
-      ⊎_elim
-        (λ (y : parts q us ≡ parts q v.me.pool.parted). record { once = omega arith; busy = λ h. fits.busy (omega arith); past = omega arith })
-        (λ (y : IsLinked s q × (parts q us ≡ parts q v.me.pool.parted + 1)). let l = y.0 in let y1 = y.1 in let o : s.owned q ≡ 0 = l.owned in let p : s.parted q ≡ 0 = l.parted in
-          record { once = omega arith; busy = λ _. l.busy; past = omega arith })
-        (go.parted q))
+    let e : z.parted q + parts q v.me.pool.parted ≡ s.parted q + parts q us = total_changed (λ x. parts q x.pool.parted) vs id v b at in
+    ⊎_elim
+    (λ (y : parts q us ≡ parts q v.me.pool.parted). record { once = omega arith; busy = λ h. fits.busy (omega arith); past = omega arith })
+    (λ (y : IsLinked s q × (parts q us ≡ parts q v.me.pool.parted + 1)). let l = y.0 in let y1 = y.1 in let o : s.owned q ≡ 0 = l.owned in let p : s.parted q ≡ 0 = l.parted in
+    record { once = omega arith; busy = λ _. l.busy; past = omega arith })
+    (go.parted q))
     (each_gives (λ x. Each (HeldFits s x.pool.announced) (held_in x.tree.reached)) (KeepsHeld s z w.epoch) vs
-      (λ x f i q h. let fits = f i q h in let less = owned_less q in let d = stamped_same q in let none : s.owned q ≡ 0 = fits.owned in
-        record { busy = fits.busy; owned = omega arith; later = inl (omega arith) }) r.held)
+    (λ x f i q h. let fits = f i q h in let less = owned_less q in let d = stamped_same q in let none : s.owned q ≡ 0 = fits.owned in
+    record { busy = fits.busy; owned = omega arith; later = inl (omega arith) }) r.held)
     (states_same w.states vs id v b r.states at refl refl)
 
 -- one page that is unlinked, without a stamp

@@ -140,7 +140,7 @@ retire_tree k p h vs id q n v r at may =
     tree_stays k p h g vs id v b r at refl
     (retire_linked k p.pool vs id q n v r.pool at may)
     (λ x l. let other : x ≢ q = λ y. let word : g q ≡ n + 1 = stored_here p.pool.states q (n + 1) in let one : g q ≡ 1 = ap g (sym y) ∙ l.busy in omega arith in
-      record { busy = sym (stored_else p.pool.states q (n + 1) x other) ∙ l.busy; owned = sym (owned_same x other) ∙ l.owned; parted = sym (parted_same x other) ∙ l.parted })
+    record { busy = sym (stored_else p.pool.states q (n + 1) x other) ∙ l.busy; owned = sym (owned_same x other) ∙ l.owned; parted = sym (parted_same x other) ∙ l.parted })
 
 pub retire_page : (k : Shape) (p : Parts) (h : List Event) (vs : List View) (id q n : ℕ) (v : View) → Rule k p h vs → get_elem? vs id ≡ some v → MayRetire k v.me q n
     → Rule k (record p { pool = record p.pool { states = stored p.pool.states q (n + 1) } }) h (set vs id (with_me v (after_retire v.me q)))

@@ -55,7 +55,7 @@ codes_stand k regions a r f fits =
     let (j, s, there, place) = fits.sealed in
     (λ i. codes_of (block_at k regions (block_back r.block r.atom small i)) (atom_back r.block r.atom small i))
     ∙ same_codes (own_block k (store_of a) r.block) (block_at k regions r.block) r.atom
-      (subst (λ (b : ℕ). ShowSame (own_block k (store_of a) b) (block_at k regions b)) place (block_stands k regions (store_of a) j s f there)) fits.above fits.atom
+    (subst (λ (b : ℕ). ShowSame (own_block k (store_of a) b) (block_at k regions b)) place (block_stands k regions (store_of a) j s f there)) fits.above fits.atom
 
 -- words of sealed blocks stay, so the codes of rows that were begun do
 pub codes_stay : (k : Shape) (regions other : ℕ → ℕ) (vs : List View) → EachAccount (λ x. RoomFits k regions (store_of x)) vs → RowRule k vs → SameSealed k regions other vs → (n : ℕ) → IsBegun vs n → codes_in k other n ≡ codes_in k regions n
@@ -71,12 +71,12 @@ codes_stay k regions other vs rooms rows same n (j, v, at, i, a, there, (r, in_b
       words = λ t past within. same j v at i a there b s in_list t (omega arith) (λ e. omega arith) (λ e. omega arith);
     } in
     let head : block_at k regions r.block 0 ≡ words_of k a.who a.room.used r.block 0 =
-      subst (λ (z : ℕ). block_at k regions z 0 ≡ words_of k a.who a.room.used z 0) place (block_stands k regions (store_of a) b s f in_list).head in
+    subst (λ (z : ℕ). block_at k regions z 0 ≡ words_of k a.who a.room.used z 0) place (block_stands k regions (store_of a) b s f in_list).head in
     let named : codes_of (block_at k other r.block) r.atom ≡ codes_of (block_at k regions r.block) r.atom = same_codes (block_at k regions r.block) (block_at k other r.block) r.atom
-      (subst (λ (z : ℕ). ShowSame (block_at k regions z) (block_at k other z)) place stay) fits.above (subst (λ (h : ℕ). r.atom ≤ atoms_in h) (sym head) fits.atom) in
+    (subst (λ (z : ℕ). ShowSame (block_at k regions z) (block_at k other z)) place stay) fits.above (subst (λ (h : ℕ). r.atom ≤ atoms_in h) (sym head) fits.atom) in
     subst (λ (z : ℕ). codes_in k other z ≡ codes_in k regions z) is
-      ((λ t. codes_of (block_at k other (block_back r.block r.atom small t)) (atom_back r.block r.atom small t))
-      ∙ (named ∙ (λ t. codes_of (block_at k regions (sym (block_back r.block r.atom small) t)) (sym (atom_back r.block r.atom small) t))))
+    ((λ t. codes_of (block_at k other (block_back r.block r.atom small t)) (atom_back r.block r.atom small t))
+    ∙ (named ∙ (λ t. codes_of (block_at k regions (sym (block_back r.block r.atom small) t)) (sym (atom_back r.block r.atom small) t))))
 
 -- what is placed was begun
 pub placed_begun : (k : Shape) (vs : List View) (n : ℕ) → RowRule k vs → IsPlaced vs n → IsBegun vs n
@@ -102,7 +102,7 @@ not_placed k regions vs id v r seats rooms rows at fits fresh (j, u, there, i, x
     let from = fit_s.from in let until = fit_s.until in let from_t = fit_t.from in let until_t = fit_t.until in
     let within = f.within in let within_t = g.within in
     let one : x ≡ v.me = one_owner k vs x v.me r.block seats record { view_place = j; seen_view = u; at = there; place = i; there = here } record { view_place = id; seen_view = v; at = at; place = 0; there = refl }
-      record { from = omega arith; until = omega arith } record { from = omega arith; until = omega arith } in
+    record { from = omega arith; until = omega arith } record { from = omega arith; until = omega arith } in
     fresh (subst (λ (y : Account). HasRow (entry_word r) y.tree.placed) one (q, in_placed, is))
   where
     one_block : (b a c d : ℕ) → a < 2 ^ 10 → d < 2 ^ 10 → b * 2 ^ 10 + a ≡ c * 2 ^ 10 + d → b ≡ c
@@ -132,11 +132,11 @@ rows_word k regions vs id word v more r rooms at =
     let room = mine (λ x. RoomFits k regions (store_of x)) vs id v at rooms in
     changed (AreRows k) vs id v a at record {
       begun = λ j q there. let fits = f.begun j q there in let (b, s, in_list, place) = fits.sealed in
-        let head : words_of k a.who a.room.used s.place 0 ≡ words_of k v.me.who v.me.room.used s.place 0 = (own_longer k regions v.me word more room b s in_list).head in record {
-        sealed = (b, s, at_longer v.me.room.sealed more b s in_list, place);
-        above = fits.above;
-        atom = subst (λ (h : ℕ). q.atom ≤ atoms_in h) (sym (subst (λ (z : ℕ). words_of k a.who a.room.used z 0 ≡ words_of k v.me.who v.me.room.used z 0) place head)) fits.atom;
-      };
+          let head : words_of k a.who a.room.used s.place 0 ≡ words_of k v.me.who v.me.room.used s.place 0 = (own_longer k regions v.me word more room b s in_list).head in record {
+            sealed = (b, s, at_longer v.me.room.sealed more b s in_list, place);
+            above = fits.above;
+            atom = subst (λ (h : ℕ). q.atom ≤ atoms_in h) (sym (subst (λ (z : ℕ). words_of k a.who a.room.used z 0 ≡ words_of k v.me.who v.me.room.used z 0) place head)) fits.atom;
+          };
       placed = f.placed;
     } r
 

@@ -96,8 +96,8 @@ by_region k p q h g vs id v a r at rest log stories full empty chains loads room
   tree = subst (λ (x : (ℕ → ℕ) × (ℕ → ℕ → ℕ)). TreeRule k x.0 x.1 (codes_in k q.regions) no_rows (set vs id (with_me v a))) (λ i. ((sym rest.pool_words i).states, sym rest.page_words i))
       (let sheet : sheet_of p.pool.states (set vs id (with_me v a)) ≡ sheet_of p.pool.states vs = sheet_same p.pool.states vs id v a at (λ n. ap (λ (x : PoolAccount). owns n x.own) rest.pool) (ap (λ (x : PoolAccount). x.parted) rest.pool) in
       tree_lifted k p.pool.states p.pool.states p.pages (codes_in k p.regions) (codes_in k q.regions) no_rows no_rows vs (set vs id (with_me v a)) (λ j u spot i x there r o. o) (λ _ o. o)
-        (linked_same (sheet_of p.pool.states vs) (sheet_of p.pool.states (set vs id (with_me v a))) sheet) (linked_same (sheet_of p.pool.states (set vs id (with_me v a))) (sheet_of p.pool.states vs) (sym sheet))
-        (codes_stay k p.regions q.regions vs r.rooms.rooms r.rows same) (λ n. placed_begun k vs n r.rows) (lift_same vs id v a at rest.tree) (keeps_same vs id v a at rest.tree) r.tree);
+      (linked_same (sheet_of p.pool.states vs) (sheet_of p.pool.states (set vs id (with_me v a))) sheet) (linked_same (sheet_of p.pool.states (set vs id (with_me v a))) (sheet_of p.pool.states vs) (sym sheet))
+      (codes_stay k p.regions q.regions vs r.rooms.rooms r.rows same) (λ n. placed_begun k vs n r.rows) (lift_same vs id v a at rest.tree) (keeps_same vs id v a at rest.tree) r.tree);
 }
 
 -- what is answered of a full chain, by what the caller has read

@@ -78,7 +78,7 @@ word_fits w u p i n o e before f = dite (ℕ_discrete p o.page)
       words = λ a x there. ⊎_elim
           (λ (t : get_elem? (take i o.words) a ≡ some x). let h = at_take o.words i a x t in let less = h.0 in e.others o.page a (inr (λ z. omega arith)) ∙ f.words a x h.1)
           (λ (t : (a ≡ length (take i o.words)) × (n ≡ x)). let long : length (take i o.words) ≡ i = length_take o.words i (before (sym here)) in
-            (λ j. u (sym here j) ((t.0 ∙ long) j)) ∙ (e.here ∙ t.1))
+          (λ j. u (sym here j) ((t.0 ∙ long) j)) ∙ (e.here ∙ t.1))
           (at_end (take i o.words) n x a there);
     })
     (λ other. subst (λ (b : Bool). OwnFits u (cond b (with_word i n o) o)) (sym (ne_eqb p o.page other)) record { words = λ a x there. e.others o.page a (inl (λ z. other (sym z))) ∙ f.words a x there })
@@ -114,16 +114,16 @@ stored_tree k pool w u c old vs id q i n v b r rules at own parted tree mine_q e
     let minus : (x : ℕ) → IsPlaced ws x → IsPlaced vs x = λ x h. ⊎_elim (λ (t : IsPlaced vs x). t) (λ (t : HasRow x b.tree.placed). (id, v, at, 0, v.me, refl, subst (λ (l : TreeAccount). HasRow x l.placed) tree t)) (placed_split vs id v b at x h) in
     let begun : (x : ℕ) → IsBegun vs x → IsBegun ws x = rows_stay vs id v b at (λ x. x.tree.begun) (ap (λ (t : TreeAccount). t.begun) tree) in
     let one : (x : Account) → Knows w s r.place c (IsPlaced vs) old x.tree → Each (HeldFits s x.pool.announced) (held_in x.tree.reached) → Knows u z r.place c (IsPlaced ws) old x.tree = λ x h held.
-      knows_stored w u s z r.place c (IsPlaced vs) (IsPlaced ws) old more less word plus x.tree
-      (λ j y there t. e.others y.page t (inl (unreached s q some_own y (h.known.fits j y there).inner (held_free s x.pool.announced x.tree.reached held j y there) y.leaf refl))) h in record {
-        place = r.place;
-        tree = tree_same w u s z r.place c (IsPlaced vs) (IsPlaced ws) more less word plus minus r.tree;
-        ranks = λ p l. r.ranks p (less p l);
-        begun = λ x p j h. let l = less p h.linked in let d = r.begun x p j record { linked = l; kind = h.kind; room = h.room; some_n = h.some_n; there = sym (word p (2 + 2 * j) l) ∙ h.there } in (d.0, begun d.0 d.1, d.2);
-        known = moved (λ x. Knows w s r.place c (IsPlaced vs) old x.tree × Each (HeldFits s x.pool.announced) (held_in x.tree.reached)) (λ x. Knows u z r.place c (IsPlaced ws) old x.tree) vs id v b at
-            (subst (λ (t : TreeAccount). Knows u z r.place c (IsPlaced ws) old t) (sym tree) (one v.me (mine (λ x. Knows w s r.place c (IsPlaced vs) old x.tree) vs id v at r.known) (mine (λ x. Each (HeldFits s x.pool.announced) (held_in x.tree.reached)) vs id v at rules.held)))
-            (λ x _ f. one x f.0 f.1) (each_both _ _ vs r.known rules.held);
-      }
+    knows_stored w u s z r.place c (IsPlaced vs) (IsPlaced ws) old more less word plus x.tree
+    (λ j y there t. e.others y.page t (inl (unreached s q some_own y (h.known.fits j y there).inner (held_free s x.pool.announced x.tree.reached held j y there) y.leaf refl))) h in record {
+      place = r.place;
+      tree = tree_same w u s z r.place c (IsPlaced vs) (IsPlaced ws) more less word plus minus r.tree;
+      ranks = λ p l. r.ranks p (less p l);
+      begun = λ x p j h. let l = less p h.linked in let d = r.begun x p j record { linked = l; kind = h.kind; room = h.room; some_n = h.some_n; there = sym (word p (2 + 2 * j) l) ∙ h.there } in (d.0, begun d.0 d.1, d.2);
+      known = moved (λ x. Knows w s r.place c (IsPlaced vs) old x.tree × Each (HeldFits s x.pool.announced) (held_in x.tree.reached)) (λ x. Knows u z r.place c (IsPlaced ws) old x.tree) vs id v b at
+          (subst (λ (t : TreeAccount). Knows u z r.place c (IsPlaced ws) old t) (sym tree) (one v.me (mine (λ x. Knows w s r.place c (IsPlaced vs) old x.tree) vs id v at r.known) (mine (λ x. Each (HeldFits s x.pool.announced) (held_in x.tree.reached)) vs id v at rules.held)))
+          (λ x _ f. one x f.0 f.1) (each_both _ _ vs r.known rules.held);
+    }
 
 -- ---- the law
 

@@ -146,8 +146,8 @@ take_tree k p h vs id loader q v r at may =
     tree_stays k p h g vs id v b r at refl
     (take_linked k p.pool vs id loader q v at may)
     (λ x l. let e = owned_more x in let none = l.owned in
-      let other : x ≢ q = λ y. let one = where_same x q 1 y in omega arith in let z = where_other x q 1 other in
-      record { busy = sym (stored_else p.pool.states q 1 x other) ∙ l.busy; owned = omega arith; parted = sym (parted_same x) ∙ l.parted })
+    let other : x ≢ q = λ y. let one = where_same x q 1 y in omega arith in let z = where_other x q 1 other in
+    record { busy = sym (stored_else p.pool.states q 1 x other) ∙ l.busy; owned = omega arith; parted = sym (parted_same x) ∙ l.parted })
 
 pub take_page : (k : Shape) (p : Parts) (h : List Event) (vs : List View) (id loader q : ℕ) (v : View) → Rule k p h vs → get_elem? vs id ≡ some v → MayTakePage k v.me loader q (p.pool.states q)
     → Rule k (record p { pool = record p.pool { states = stored p.pool.states q 1 } }) h (set vs id (with_me v (after_page v.me q)))

@@ -219,7 +219,7 @@ tree_told k f w c old vs id v a at own parted begun placed was r knows =
       codes = λ _ _. refl;
       placed = was;
     } r (λ all. changed (λ x. Knows w z r.place c (IsPlaced ws) old x.tree) vs id v a at
-      (knows_moved w s z r.place c c (IsPlaced vs) (IsPlaced ws) old old (linked_same s z sheet) (linked_same z s (sym sheet)) plus (λ _ _. refl) a.tree (λ _ o. o) knows) all)
+    (knows_moved w s z r.place c c (IsPlaced vs) (IsPlaced ws) old old (linked_same s z sheet) (linked_same z s (sym sheet)) plus (λ _ _. refl) a.tree (λ _ o. o) knows) all)
 
 -- ---- splits, joins and the opening
 
@@ -249,7 +249,7 @@ tree_note_goes k f w c old vs other front u none placed there is sheet r =
     tree_lifted k f f w c c old old vs ws (λ j u spot i x there r o. o) none (linked_same (sheet_of f vs) (sheet_of f ws) sheet) (linked_same (sheet_of f ws) (sheet_of f vs) (sym sheet)) (λ _ _. refl) placed
     (λ F blank all. each_left (λ x. F x.tree) vs other blank all)
     (λ F blank t. some_left (λ x. F x.tree) vs other u there
-      (λ h. blank (of_note F front (subst (λ (x : View). (i : ℕ) × (a : Account) × (get_elem? (accounts_in x) i ≡ some a) × F a.tree) is h))) t) r
+    (λ h. blank (of_note F front (subst (λ (x : View). (i : ℕ) × (a : Account) × (get_elem? (accounts_in x) i ≡ some a) × F a.tree) is h))) t) r
   where
     of_note : (F : TreeAccount → Type 0) (front : ℕ) → (i : ℕ) × (a : Account) × (get_elem? (account Note front ∷ []) i ≡ some a) × F a.tree → F blank_tree
     of_note F front (zero, a, there, h) = subst (λ (x : Account). F x.tree) (sym (some-injective (account Note front) a there)) h

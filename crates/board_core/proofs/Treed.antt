@@ -6,7 +6,7 @@ use mathlib.Core.Logic.{dite}
 use native.Mathlib.Decide.{ℕ_discrete}
 use prog.Atomic.{either}
 use lib.ListN.{get_elem?}
-use Rattle.atomic_table.specs.Table.{step, keeps, stepped, Allows}
+use Rattle.atomic_table.specs.Table.{Step, step, keeps, stepped, Allows}
 use Rattle.atomic_table.proofs.Lists.{set_again}
 use Rattle.htss_defs.specs.declared.shape.Shape.{Shape}
 use Rattle.htss_defs.specs.declared.history.Event.{Event}
@@ -101,11 +101,12 @@ busy_page k ws (suc i) busy = (omega arith, dite (ℕ_discrete (suc i - k.pages)
 
 -- ---- an exchange of a word that was 0
 
-pub claim_allowed : (k : Shape) (slots id q i x at_word : ℕ) (m : Mine) (b : Account) → at_word ≡ page_word k q i → IsPage k q → i < 16
+pub claim_allowed : (k : Shape) (slots id q i x at_word : ℕ) (m : Mine) (b : Account) (Loads : Step (Unit {0}) → Mine → ℕ → Mine → Type 0) → at_word ≡ page_word k q i → IsPage k q → i < 16
     → ((s : St) → Holds k s → get_elem? s.views id ≡ some m.0 → (parts_of k s.words).pages q i ≡ 0
-      → Rule k (record (parts_of k s.words) { pages = stored_page (parts_of k s.words).pages q i x }) (history_of k (parts_of k s.words)) (set s.views id (with_me m.0 b)))
-    → Allows (Holds k) slots id m at_word (λ n. either (n == 0) x n) (Claims b (step slots at_word 0 x none) m)
-claim_allowed k slots id q i x at_word m b is inside small law s h _ at _ =
+    → Rule k (record (parts_of k s.words) { pages = stored_page (parts_of k s.words).pages q i x }) (history_of k (parts_of k s.words)) (set s.views id (with_me m.0 b)))
+    → Allows (Holds k) slots id m at_word (λ n. n) (Loads (step slots at_word 0 x none) m)
+    → Allows (Holds k) slots id m at_word (λ n. either (n == 0) x n) (Claims b Loads (step slots at_word 0 x none) m)
+claim_allowed k slots id q i x at_word m b Loads is inside small law load s h homes at within =
     let n : ℕ = get_or s.words at_word 0 in
     let p : Parts = parts_of k s.words in
     let same : p.pages q i ≡ n = page_at k s.words q i inside small ∙ ap (λ (z : ℕ). get_or s.words z 0) (sym is) in
@@ -118,11 +119,10 @@ claim_allowed k slots id q i x at_word m b is inside small law s h _ at _ =
           (words_moved k s at_word x id m.1 m.0 b _ h (ap (λ (z : ℕ). parts_of k (set s.words z x)) is ∙ put_page k s.words q i x h.wide inside small) (law s h at (same ∙ won))),
       record { won = λ _. refl; lost = λ other. absurd (other won) },
     ))
-    (λ lost. (
-      m.0,
-      keeps,
-      tt,
-      subst (λ c. Holds k (stepped s at_word (either c x n) id m.1 m.0 keeps)) (sym (ne_eqb n 0 lost))
-          (still k s at_word id m.1 m.0 m.0.me h (subst (λ (l : List View). Rule k p (history_of k p) l) (sym (set_again s.views id m.0 at)) h.rule)),
-      record { won = λ won. absurd (lost won); lost = λ _. refl },
+    (λ lost. let (w, act, valid, holds, told) = load s h homes at within in (
+      w,
+      act,
+      valid,
+      subst (λ c. Holds k (stepped s at_word (either c x n) id m.1 w act)) (sym (ne_eqb n 0 lost)) holds,
+      record { won = λ won. absurd (lost won); lost = λ _. told },
     ))

@@ -5,7 +5,7 @@ use Rattle.board_core.specs.declared.tree.Way.TheVariants.{More, Branch}
 use Rattle.board_core.specs.Sheets.{Sheet, IsLinked}
 
 -- the depth from which on a full leaf goes on at its next page. Full leaves do so at every depth
-pub chained : ℕ
+unfoldable pub chained : ℕ
 chained = 0
 
 -- where a linked page stands. The rule keeps one for each page, as a witness

@@ -10,7 +10,7 @@ use Rattle.board_core.specs.declared.account.Who.TheVariants.{Loader}
 use Rattle.board_core.specs.declared.log.Holding.TheVariants.{Away, Fronted}
 use Rattle.board_core.specs.declared.log.Ending.{Ending}
 use Rattle.board_core.specs.declared.entry.Entry.{Entry}
-use Rattle.board_core.specs.Each.{Each}
+use Rattle.board_core.specs.Each.{Each, In}
 use Rattle.board_core.specs.Words.{Parts, total_of}
 use Rattle.board_core.specs.Blocks.{shown_at, ended_at, block_size}
 use Rattle.board_core.specs.Records.{IsRecord}
@@ -25,7 +25,7 @@ use Rattle.board_core.specs.Loaded.{HasLoaded, SawMark, IsOpenMark, IsInTable, I
 use Rattle.board_core.specs.declared.tree.Link.TheVariants.{Unread}
 use Rattle.board_core.specs.ClassTree.{chained, page_room, header_of}
 use Rattle.board_core.specs.KnownPages.{place_of}
-use Rattle.board_core.specs.Rows.{entry_word, code_of, words_of, IsOwnRow}
+use Rattle.board_core.specs.Rows.{entry_word, code_of, words_of, IsOwnRow, HasRow}
 use mathlib.Core.Option.{some}
 use lib.ListN.{get_elem?}
 use Rattle.board_core.specs.LoadRule.{LoadFits}
@@ -180,9 +180,7 @@ pub record MayLoadMore (k : Shape) (a : Account) (j : ℕ) : Type 0 where
 
 -- a link that is 0 may be exchanged for a leaf that has a row
 pub record MayLinkLeaf (k : Shape) (a : Account) (j i c n : ℕ) (r : Row) : Type 0 where
-  pub visit : IsVisit k a j
-  pub inner : (visited a.tree.reached j).leaf ≡ false
-  pub code : get_elem? (visited a.tree.reached j).slots i ≡ some c
+  pub load : MayLoadLink k a j i c
   pub new : HasStored a n (one_word (header_of (leaf_place (visited a.tree.reached j) i c)) (entry_word r))
   pub row : IsToPlace k a ((visited a.tree.reached j).path ++ c ∷ []) r
 
@@ -204,8 +202,7 @@ pub record MayClaimEntry (k : Shape) (a : Account) (j : ℕ) (r : Row) : Type 0 
 
 -- the next page of a full one may be linked
 pub record MayLinkNext (k : Shape) (a : Account) (j n word : ℕ) : Type 0 where
-  pub visit : IsVisit k a j
-  pub full : length (visited a.tree.reached j).slots ≡ page_room (visited a.tree.reached j).leaf
+  pub load : MayLoadMore k a j
   pub rank : (visited a.tree.reached j).rank + 1 < k.chain
   pub new : HasStored a n (one_word (header_of (next_place (visited a.tree.reached j))) word)
 
@@ -221,52 +218,35 @@ pub record MayLinkInner (k : Shape) (a : Account) (j n c : ℕ) : Type 0 where
   pub inner : (visited a.tree.reached j).leaf ≡ false
   pub claim : IsToClaim k a (visited a.tree.reached j).path c
 
--- an exchange of a page word that is 0 for this one, and the account if it is won: one of five kinds
-pub record IsLeafClaim (k : Shape) (a : Account) (page place word : ℕ) (b : Account) : Type 0 where
-  pub number : ℕ
-  pub index : ℕ
-  pub code : ℕ
-  pub row : Row
-  pub may : MayLinkLeaf k a number index code word row
-  pub small : index < 7
-  pub page_is : page ≡ (visited a.tree.reached number).page
-  pub place_is : place ≡ 3 + 2 * index
-  pub after : b ≡ after_linked a word (row ∷ [])
+-- an exchange of a page word that is 0: a link for a leaf that has a row, an entry for a row, a code word for a code, the next page for
+-- a leaf that has a row, and for an inner page that has a code. Pages that were reached go by their numbers
+pub data Claim : Type 0 where
+  LeafBelow : ℕ → ℕ → ℕ → ℕ → Row → Claim
+  EntryOf : ℕ → Row → Claim
+  CodeOf : ℕ → ℕ → Claim
+  LeafBehind : ℕ → ℕ → Row → Claim
+  InnerBehind : ℕ → ℕ → ℕ → Claim
 
-pub record IsEntryClaim (k : Shape) (a : Account) (page place word : ℕ) (b : Account) : Type 0 where
-  pub number : ℕ
-  pub row : Row
-  pub may : MayClaimEntry k a number row
-  pub page_is : page ≡ (visited a.tree.reached number).page
-  pub place_is : place ≡ 2 + length (visited a.tree.reached number).slots
-  pub word_is : word ≡ entry_word row
-  pub after : b ≡ after_entry a number row
+-- the word at this place of a page that was reached is to be exchanged for n
+pub record IsClaimAt (a : Account) (j at n page place word : ℕ) : Type 0 where
+  pub page_is : page ≡ (visited a.tree.reached j).page
+  pub place_is : place ≡ at
+  pub word_is : word ≡ n
 
-pub record IsCodeClaim (k : Shape) (a : Account) (page place word : ℕ) (b : Account) : Type 0 where
-  pub number : ℕ
-  pub may : MayClaimCode k a number word
-  pub page_is : page ≡ (visited a.tree.reached number).page
-  pub place_is : place ≡ 2 + 2 * length (visited a.tree.reached number).slots
-  pub after : b ≡ after_slot a number word
+abbrev pub MayClaim : Shape → Account → ℕ → ℕ → ℕ → Claim → Type 0
+MayClaim k a page place word (LeafBelow j i c n row) = MayLinkLeaf k a j i c n row × (i < 7) × IsClaimAt a j (3 + 2 * i) n page place word
+MayClaim k a page place word (EntryOf j row) = MayClaimEntry k a j row × IsClaimAt a j (2 + length (visited a.tree.reached j).slots) (entry_word row) page place word
+MayClaim k a page place word (CodeOf j c) = MayClaimCode k a j c × IsClaimAt a j (2 + 2 * length (visited a.tree.reached j).slots) c page place word
+MayClaim k a page place word (LeafBehind j n row) = MayLinkMoreLeaf k a j n row × IsClaimAt a j 1 n page place word
+MayClaim k a page place word (InnerBehind j n c) = MayLinkInner k a j n c × IsClaimAt a j 1 n page place word
 
-pub record IsMoreLeafClaim (k : Shape) (a : Account) (page place word : ℕ) (b : Account) : Type 0 where
-  pub number : ℕ
-  pub row : Row
-  pub may : MayLinkMoreLeaf k a number word row
-  pub page_is : page ≡ (visited a.tree.reached number).page
-  pub place_is : place ≡ 1
-  pub after : b ≡ after_linked a word (row ∷ [])
-
-pub record IsInnerClaim (k : Shape) (a : Account) (page place word : ℕ) (b : Account) : Type 0 where
-  pub number : ℕ
-  pub code : ℕ
-  pub may : MayLinkInner k a number word code
-  pub page_is : page ≡ (visited a.tree.reached number).page
-  pub place_is : place ≡ 1
-  pub after : b ≡ after_inner a word
-
-abbrev pub MayClaim : Shape → Account → ℕ → ℕ → ℕ → Account → Type 0
-MayClaim k a page place word b = IsLeafClaim k a page place word b ⊎ (IsEntryClaim k a page place word b ⊎ (IsCodeClaim k a page place word b ⊎ (IsMoreLeafClaim k a page place word b ⊎ IsInnerClaim k a page place word b)))
+-- the account after an exchange that is won: an inner page that it links, and a code, are known as if they had been loaded
+abbrev pub after_claim : Account → Claim → Account
+after_claim a (LeafBelow j i c n row) = after_linked a n (row ∷ [])
+after_claim a (EntryOf j row) = after_entry a j row
+after_claim a (CodeOf j c) = after_slot a j c
+after_claim a (LeafBehind j n row) = after_linked a n (row ∷ [])
+after_claim a (InnerBehind j n c) = after_more (after_inner a n) j n
 
 -- ---- what is known of a board whatever its words are
 
@@ -409,10 +389,11 @@ Retires p s m found n = n ≡ became m (after_retire m.0.me p)
 abbrev pub StoresOwn : ℕ → ℕ → Step (Unit {0}) → Mine → ℕ → Mine → Type 0
 StoresOwn p i s m found n = n ≡ became m (after_own m.0.me p i s.first)
 
--- the header of a page that was reached is that of its place
+-- the header of a page that was reached is that of its place, and an inner page stands above depth 5
 pub record LoadsHeader (j : ℕ) (s : Step (Unit {0})) (m : Mine) (found : ℕ) (n : Mine) : Type 0 where
   pub same : n ≡ m
   pub header : found ≡ header_of (place_of (visited m.0.me.tree.reached j))
+  pub shallow : (visited m.0.me.tree.reached j).leaf ≡ false → length (visited m.0.me.tree.reached j).path < 5
 
 abbrev pub LoadsSlot : ℕ → Step (Unit {0}) → Mine → ℕ → Mine → Type 0
 LoadsSlot j s m found n = n ≡ became m (after_slot m.0.me j found)
@@ -429,18 +410,34 @@ pub record LoadsMore (j : ℕ) (s : Step (Unit {0})) (m : Mine) (found : ℕ) (n
   pub page : found ≢ 0 → IsPage m.0.shape found
   pub rank : found ≢ 0 → (visited m.0.me.tree.reached j).rank + 1 < m.0.shape.chain
 
--- a word that was 0 is the caller's now, or it was another's, and nothing changed
-pub record Claims (after : Account) (s : Step (Unit {0})) (m : Mine) (found : ℕ) (n : Mine) : Type 0 where
+-- a word that was 0 is the caller's now, or it was another, which was then loaded
+pub record Claims (after : Account) (Loads : Step (Unit {0}) → Mine → ℕ → Mine → Type 0) (s : Step (Unit {0})) (m : Mine) (found : ℕ) (n : Mine) : Type 0 where
   pub won : found ≡ 0 → n ≡ became m after
-  pub lost : found ≢ 0 → n ≡ m
+  pub lost : found ≢ 0 → Loads s m found n
+
+abbrev pub LoadsInstead : Claim → Step (Unit {0}) → Mine → ℕ → Mine → Type 0
+LoadsInstead (LeafBelow j i c n row) = LoadsLink j i c
+LoadsInstead (EntryOf j row) = LoadsSlot j
+LoadsInstead (CodeOf j c) = LoadsSlot j
+LoadsInstead (LeafBehind j n row) = LoadsMore j
+LoadsInstead (InnerBehind j n c) = LoadsMore j
+
+abbrev pub ClaimsWord : Claim → Step (Unit {0}) → Mine → ℕ → Mine → Type 0
+ClaimsWord claim s m found n = Claims (after_claim m.0.me claim) (LoadsInstead claim) s m found n
 
 -- a code of an own row was loaded: it is the one that was stored
 pub record LoadsOwnCode (row : Row) (code : ℕ) (s : Step (Unit {0})) (m : Mine) (found : ℕ) (n : Mine) : Type 0 where
   pub after : n ≡ became m (after_code m.0.me row code found)
   pub stored_is : found ≡ code_of (words_of m.0.shape m.0.me.who m.0.me.room.used row.block) row.atom code
 
--- and the row is begun
+-- and the row is begun. Of the rows that were placed, its entry word names it alone
 pub record BeginsRow (row : Row) (code : ℕ) (s : Step (Unit {0})) (m : Mine) (found : ℕ) (n : Mine) : Type 0 where
   pub after : n ≡ became m (after_begun (after_code m.0.me row code found) row)
   pub stored_is : found ≡ code_of (words_of m.0.shape m.0.me.who m.0.me.room.used row.block) row.atom code
+  pub alone : HasRow (entry_word row) m.0.me.tree.placed → In row m.0.me.tree.placed
 
+-- the first word of an own block was loaded: it is the one that was stored, and all of the block is in the table
+pub record LoadsOwnHead (block : ℕ) (s : Step (Unit {0})) (m : Mine) (found : ℕ) (n : Mine) : Type 0 where
+  pub same : n ≡ m
+  pub stored_is : found ≡ words_of m.0.shape m.0.me.who m.0.me.room.used block 0
+  pub until : block + block_size found ≤ total_of m.0.shape
