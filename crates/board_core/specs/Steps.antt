@@ -1,5 +1,5 @@
 -- When a caller may take each kind of step, and what the step tells it: of the seat before, the number found, and the seat after.
-use Rattle.std.specs.Prelude.{◌≡◌, ◌≢◌, ◌↔◌, ℕ, ◌<◌, ◌≤◌, ◌^◌, ◌⊎◌, List, [], Some, None, length, ◌++◌, ◌∷◌, ◌+◌, ◌-◌}
+use Rattle.std.specs.Prelude.{◌≡◌, ◌≢◌, ◌↔◌, ℕ, ◌<◌, ◌≤◌, ◌^◌, ◌⊎◌, List, [], Some, None, length, ◌++◌, ◌∷◌, ◌+◌, ◌-◌, ◌*◌, Bool, true, false}
 use Rattle.atomic_table.specs.Table.{Me, Step}
 use Rattle.htss_defs.specs.declared.shape.Shape.{Shape}
 use Rattle.htss_defs.specs.declared.history.Event.{Event}
@@ -21,14 +21,21 @@ use Rattle.board_core.specs.declared.room.Sealed.{Sealed}
 use Rattle.board_core.specs.declared.room.Row.{Row}
 use Rattle.board_core.specs.RoomRule.{own_block, region_of, store_of, IsSealed, SealedFits}
 use Rattle.board_core.specs.MarkRule.{IsAmong, AreListed}
-use Rattle.board_core.specs.Loaded.{HasLoaded, SawMark, IsOpenMark, IsInTable, IsPage, HasEpoch, HasState, HasParted, HasOwn}
+use Rattle.board_core.specs.Loaded.{HasLoaded, SawMark, IsOpenMark, IsInTable, IsPage, HasEpoch, HasState, HasParted, HasOwn, IsVisit, HasStored, one_word, leaf_place, next_place, IsToPlace, IsToClaim}
+use Rattle.board_core.specs.declared.tree.Link.TheVariants.{Unread}
+use Rattle.board_core.specs.ClassTree.{chained, page_room, header_of}
+use Rattle.board_core.specs.KnownPages.{place_of}
+use Rattle.board_core.specs.Rows.{entry_word, code_of, words_of, IsOwnRow}
+use mathlib.Core.Option.{some}
+use lib.ListN.{get_elem?}
 use Rattle.board_core.specs.LoadRule.{LoadFits}
 use Rattle.board_core.specs.FactRule.{BlocksStand}
 use Rattle.board_core.specs.Sheets.{owns}
 use Rattle.board_core.specs.StateRule.{StatesStand}
+use Rattle.board_core.specs.ChainRule.{IsToldChain}
 use Rattle.board_core.specs.EpochRule.{IsPast, last_epoch}
 use Rattle.board_core.specs.LogWord.{kind_in, publication_word, target_in, withdrawal_word}
-use Rattle.board_core.specs.After.{after_epoch, after_advance, after_pin, after_unpin, after_pass, after_state, after_lost, after_page, after_retire, after_code, after_fact, after_head, after_mark, after_word, noted, after_take, after_free, after_answer, after_front, after_shows, after_ends, after_logged, after_event, after_shown}
+use Rattle.board_core.specs.After.{visited, after_begun, after_linked, after_inner, after_entry, after_own, after_slot, after_link, after_more, after_epoch, after_advance, after_pin, after_unpin, after_pass, after_state, after_lost, after_page, after_retire, after_code, after_fact, after_head, after_mark, after_word, noted, after_take, after_free, after_answer, after_front, after_shows, after_ends, after_logged, after_event, after_shown}
 
 abbrev pub Mine : Type 0
 Mine = Me (Unit {0}) View
@@ -136,6 +143,131 @@ pub record MayRetire (k : Shape) (a : Account) (p n : ℕ) : Type 0 where
   pub inside : IsPage k p
   pub kind : HasParted a p n ⊎ (HasOwn a p × HasEpoch a n)
 
+-- a code of an own row may be loaded
+pub record MayLoadOwn (k : Shape) (a : Account) (row : Row) (head code : ℕ) : Type 0 where
+  pub row_is : IsOwnRow k a row
+  pub head_is : words_of k a.who a.room.used row.block 0 ≡ head
+  pub code_is : code < 5
+
+-- word i of an own page may be stored: the words before it were
+pub record MayStoreOwn (k : Shape) (a : Account) (p i : ℕ) : Type 0 where
+  pub inside : IsPage k p
+  pub small : i < 16
+  pub own : HasOwn a p
+  pub before : Each (λ o. o.page ≡ p → i ≤ length o.words) a.pool.own
+
+-- the next code or entry of a page may be loaded
+pub record MayLoadSlot (k : Shape) (a : Account) (j : ℕ) : Type 0 where
+  pub visit : IsVisit k a j
+  pub unread : (visited a.tree.reached j).more ≡ Unread
+  pub room : length (visited a.tree.reached j).slots < page_room (visited a.tree.reached j).leaf
+
+-- the link of a code that was loaded
+pub record MayLoadLink (k : Shape) (a : Account) (j i c : ℕ) : Type 0 where
+  pub visit : IsVisit k a j
+  pub pinned : 0 < a.pool.announced
+  pub inner : (visited a.tree.reached j).leaf ≡ false
+  pub code : get_elem? (visited a.tree.reached j).slots i ≡ some c
+  pub not_zero : (visited a.tree.reached j).zero ≡ false
+  pub unread : (visited a.tree.reached j).more ≡ Unread
+
+-- the next page of one that was read whole
+pub record MayLoadMore (k : Shape) (a : Account) (j : ℕ) : Type 0 where
+  pub visit : IsVisit k a j
+  pub pinned : 0 < a.pool.announced
+  pub full : length (visited a.tree.reached j).slots ≡ page_room (visited a.tree.reached j).leaf
+  pub not_zero : (visited a.tree.reached j).zero ≡ false
+
+-- a link that is 0 may be exchanged for a leaf that has a row
+pub record MayLinkLeaf (k : Shape) (a : Account) (j i c n : ℕ) (r : Row) : Type 0 where
+  pub visit : IsVisit k a j
+  pub inner : (visited a.tree.reached j).leaf ≡ false
+  pub code : get_elem? (visited a.tree.reached j).slots i ≡ some c
+  pub new : HasStored a n (one_word (header_of (leaf_place (visited a.tree.reached j) i c)) (entry_word r))
+  pub row : IsToPlace k a ((visited a.tree.reached j).path ++ c ∷ []) r
+
+-- the next code word of a page, of which all codes before it were loaded, may be exchanged for a code
+pub record MayClaimCode (k : Shape) (a : Account) (j c : ℕ) : Type 0 where
+  pub visit : IsVisit k a j
+  pub inner : (visited a.tree.reached j).leaf ≡ false
+  pub unread : (visited a.tree.reached j).more ≡ Unread
+  pub room : length (visited a.tree.reached j).slots < 7
+  pub claim : IsToClaim k a (visited a.tree.reached j).path c
+
+-- the next entry for a row
+pub record MayClaimEntry (k : Shape) (a : Account) (j : ℕ) (r : Row) : Type 0 where
+  pub visit : IsVisit k a j
+  pub leaf : (visited a.tree.reached j).leaf ≡ true
+  pub unread : (visited a.tree.reached j).more ≡ Unread
+  pub room : length (visited a.tree.reached j).slots < 14
+  pub row : IsToPlace k a (visited a.tree.reached j).path r
+
+-- the next page of a full one may be linked
+pub record MayLinkNext (k : Shape) (a : Account) (j n word : ℕ) : Type 0 where
+  pub visit : IsVisit k a j
+  pub full : length (visited a.tree.reached j).slots ≡ page_room (visited a.tree.reached j).leaf
+  pub rank : (visited a.tree.reached j).rank + 1 < k.chain
+  pub new : HasStored a n (one_word (header_of (next_place (visited a.tree.reached j))) word)
+
+-- a leaf that has a row, and an inner page that has a code
+pub record MayLinkMoreLeaf (k : Shape) (a : Account) (j n : ℕ) (r : Row) : Type 0 where
+  pub may : MayLinkNext k a j n (entry_word r)
+  pub leaf : (visited a.tree.reached j).leaf ≡ true
+  pub deep : chained ≤ length (visited a.tree.reached j).path
+  pub row : IsToPlace k a (visited a.tree.reached j).path r
+
+pub record MayLinkInner (k : Shape) (a : Account) (j n c : ℕ) : Type 0 where
+  pub may : MayLinkNext k a j n c
+  pub inner : (visited a.tree.reached j).leaf ≡ false
+  pub claim : IsToClaim k a (visited a.tree.reached j).path c
+
+-- an exchange of a page word that is 0 for this one, and the account if it is won: one of five kinds
+pub record IsLeafClaim (k : Shape) (a : Account) (page place word : ℕ) (b : Account) : Type 0 where
+  pub number : ℕ
+  pub index : ℕ
+  pub code : ℕ
+  pub row : Row
+  pub may : MayLinkLeaf k a number index code word row
+  pub small : index < 7
+  pub page_is : page ≡ (visited a.tree.reached number).page
+  pub place_is : place ≡ 3 + 2 * index
+  pub after : b ≡ after_linked a word (row ∷ [])
+
+pub record IsEntryClaim (k : Shape) (a : Account) (page place word : ℕ) (b : Account) : Type 0 where
+  pub number : ℕ
+  pub row : Row
+  pub may : MayClaimEntry k a number row
+  pub page_is : page ≡ (visited a.tree.reached number).page
+  pub place_is : place ≡ 2 + length (visited a.tree.reached number).slots
+  pub word_is : word ≡ entry_word row
+  pub after : b ≡ after_entry a number row
+
+pub record IsCodeClaim (k : Shape) (a : Account) (page place word : ℕ) (b : Account) : Type 0 where
+  pub number : ℕ
+  pub may : MayClaimCode k a number word
+  pub page_is : page ≡ (visited a.tree.reached number).page
+  pub place_is : place ≡ 2 + 2 * length (visited a.tree.reached number).slots
+  pub after : b ≡ after_slot a number word
+
+pub record IsMoreLeafClaim (k : Shape) (a : Account) (page place word : ℕ) (b : Account) : Type 0 where
+  pub number : ℕ
+  pub row : Row
+  pub may : MayLinkMoreLeaf k a number word row
+  pub page_is : page ≡ (visited a.tree.reached number).page
+  pub place_is : place ≡ 1
+  pub after : b ≡ after_linked a word (row ∷ [])
+
+pub record IsInnerClaim (k : Shape) (a : Account) (page place word : ℕ) (b : Account) : Type 0 where
+  pub number : ℕ
+  pub code : ℕ
+  pub may : MayLinkInner k a number word code
+  pub page_is : page ≡ (visited a.tree.reached number).page
+  pub place_is : place ≡ 1
+  pub after : b ≡ after_inner a word
+
+abbrev pub MayClaim : Shape → Account → ℕ → ℕ → ℕ → Account → Type 0
+MayClaim k a page place word b = IsLeafClaim k a page place word b ⊎ (IsEntryClaim k a page place word b ⊎ (IsCodeClaim k a page place word b ⊎ (IsMoreLeafClaim k a page place word b ⊎ IsInnerClaim k a page place word b)))
+
 -- ---- what is known of a board whatever its words are
 
 -- what the rule says of the blocks that the events show: each shows a record, and its last mark is the number of the event, if any,
@@ -172,6 +304,7 @@ pub record AreTrue (k : Shape) (a : Account) (es : List Entry) : Type 0 where
   pub each : (p : Parts) → Known k p → Agrees k p a → Each (IsTrueLog k (history_of k p)) es
   pub rooms : Each (IsTrueRoom (k.room - length a.room.used)) es
   pub pages : (states : ℕ → ℕ) → StatesStand states a.loads → Each (IsTruePool k states) es
+  pub chains : Each (IsToldChain k a) es
 
 -- ---- what the steps tell
 
@@ -272,3 +405,41 @@ pub record TakesPage (p : ℕ) (s : Step (Unit {0})) (m : Mine) (found : ℕ) (n
 
 abbrev pub Retires : ℕ → Step (Unit {0}) → Mine → ℕ → Mine → Type 0
 Retires p s m found n = n ≡ became m (after_retire m.0.me p)
+
+abbrev pub StoresOwn : ℕ → ℕ → Step (Unit {0}) → Mine → ℕ → Mine → Type 0
+StoresOwn p i s m found n = n ≡ became m (after_own m.0.me p i s.first)
+
+-- the header of a page that was reached is that of its place
+pub record LoadsHeader (j : ℕ) (s : Step (Unit {0})) (m : Mine) (found : ℕ) (n : Mine) : Type 0 where
+  pub same : n ≡ m
+  pub header : found ≡ header_of (place_of (visited m.0.me.tree.reached j))
+
+abbrev pub LoadsSlot : ℕ → Step (Unit {0}) → Mine → ℕ → Mine → Type 0
+LoadsSlot j s m found n = n ≡ became m (after_slot m.0.me j found)
+
+-- a link leads to a page of the table, a leaf or an inner one
+pub record LoadsLink (j i c : ℕ) (s : Step (Unit {0})) (m : Mine) (found : ℕ) (n : Mine) : Type 0 where
+  pub leaf : Bool
+  pub after : n ≡ became m (after_link m.0.me j i c found leaf)
+  pub page : found ≢ 0 → IsPage m.0.shape found
+
+-- the next page, of a rank that is in the shape
+pub record LoadsMore (j : ℕ) (s : Step (Unit {0})) (m : Mine) (found : ℕ) (n : Mine) : Type 0 where
+  pub after : n ≡ became m (after_more m.0.me j found)
+  pub page : found ≢ 0 → IsPage m.0.shape found
+  pub rank : found ≢ 0 → (visited m.0.me.tree.reached j).rank + 1 < m.0.shape.chain
+
+-- a word that was 0 is the caller's now, or it was another's, and nothing changed
+pub record Claims (after : Account) (s : Step (Unit {0})) (m : Mine) (found : ℕ) (n : Mine) : Type 0 where
+  pub won : found ≡ 0 → n ≡ became m after
+  pub lost : found ≢ 0 → n ≡ m
+
+-- a code of an own row was loaded: it is the one that was stored
+pub record LoadsOwnCode (row : Row) (code : ℕ) (s : Step (Unit {0})) (m : Mine) (found : ℕ) (n : Mine) : Type 0 where
+  pub after : n ≡ became m (after_code m.0.me row code found)
+  pub stored_is : found ≡ code_of (words_of m.0.shape m.0.me.who m.0.me.room.used row.block) row.atom code
+
+-- and the row is begun
+pub record BeginsRow (row : Row) (code : ℕ) (s : Step (Unit {0})) (m : Mine) (found : ℕ) (n : Mine) : Type 0 where
+  pub after : n ≡ became m (after_begun (after_code m.0.me row code found) row)
+  pub stored_is : found ≡ code_of (words_of m.0.shape m.0.me.who m.0.me.room.used row.block) row.atom code

@@ -29,7 +29,7 @@ IsTrueLog k h (Ended number at) = Withdraws h at number
 IsTrueLog k h (LogFull front) = (front ≤ length h) × (front ≡ k.log)
 IsTrueLog k h (DataFull left need) = Unit {0}
 IsTrueLog k h NoPage = Unit {0}
-IsTrueLog k h (ChainFull pages) = ⊥
+IsTrueLog k h (ChainFull pages) = Unit {0}
 IsTrueLog k h (Swept need front rows) = ⊥
 
 -- the part that reads how many words of the caller's region are left

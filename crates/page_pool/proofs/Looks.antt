@@ -18,6 +18,7 @@ use Rattle.board_core.specs.Steps.{AreTrue, MayTakePage}
 use Rattle.board_core.proofs.Lists.{each_none, each_cons, at_longer, at_last}
 use Rattle.board.specs.Seated.{Place, Seated, IsOf, IsLoader, IsLost, with_account, number_of}
 use Rattle.page_pool.specs.Taking.{AreBetween, AreRound, with_looks, WasLoaded, WasLost, WasBusy, HasLooked, HasTaken}
+use Rattle.board_core.specs.ChainRule.{IsToldChain}
 
 abbrev loaded : ℕ → ℕ → StateLoad
 loaded page word = record { page = page; word = word }
@@ -219,4 +220,5 @@ none_true O k low c d a = record {
   each = λ p known agrees. each_cons (IsTrueLog k (history_of k p)) NoPage [] tt (each_none (IsTrueLog k (history_of k p)));
   rooms = each_cons (IsTrueRoom (k.room - length d.account.room.used)) NoPage [] tt (each_none (IsTrueRoom (k.room - length d.account.room.used)));
   pages = λ f stand. each_cons (IsTruePool k f) NoPage [] (λ p above within. not_free O f low c d 1 (k.pages + 1) p a stand above (omega arith)) (each_none (IsTruePool k f));
+  chains = each_cons (IsToldChain k d.account) NoPage [] tt (each_none (IsToldChain k d.account));
 }
