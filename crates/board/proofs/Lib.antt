@@ -2,6 +2,7 @@ pub mod Tied
 pub mod NextWord
 pub mod PageWords
 pub mod Stocks
+pub mod TreeWords
 pub mod News
 pub mod Gathers
 pub mod Endings

@@ -2,7 +2,7 @@
 use Rattle.std.proofs.Common.{◌≡◌, ◌≢◌, ℕ, Bool, true, false, ◌+◌, ◌*◌, ◌-◌, ◌^◌, ◌≤◌, ◌<◌, List, [], refl, sym, ap, ◌∙◌, subst, arith}
 use Rattle.atomic_table.specs.Seated.{TableId}
 use Rattle.htss_defs.specs.declared.shape.Shape.{Shape}
-use Rattle.htss_defs.specs.declared.shape.Field.TheVariants.{Loaders, Searchers, Pages, Log}
+use Rattle.htss_defs.specs.declared.shape.Field.TheVariants.{Loaders, Searchers, Pages, Log, Chain}
 use Rattle.htss_defs.specs.Shapes.{IsShape}
 use Rattle.board_core.specs.declared.account.Account.{Account}
 use Rattle.board_core.specs.declared.account.View.{View}
@@ -74,6 +74,9 @@ pages_at_most k h = (h Pages).1
 
 pub some_page : (k : Shape) → IsShape k → 0 < k.pages
 some_page k h = let pages = (h Pages).0 in omega arith
+
+pub some_chain : (k : Shape) → IsShape k → 0 < k.chain
+some_chain k h = let chain = (h Chain).0 in omega arith
 
 pub log_place_fits : (at i : ℕ) (k : Shape) → at ≡ log_at k → IsShape k → i < k.log → at + i < 2 ^ 64
 log_place_fits at i k is h inside =

@@ -2,3 +2,4 @@ pub mod Seated
 pub mod Refused
 pub mod Closed
 pub mod Staging
+pub mod Claimed

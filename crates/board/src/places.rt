@@ -5,7 +5,7 @@ ghost use Rattle.board_core.specs.declared.account.Who.TheVariants.{Loader};
 ghost use Rattle.board_core.specs.Words.{log_at, states_at};
 ghost use Rattle.board_core.specs.Accounts.{seat_of};
 ghost use Rattle.board_core.specs.SeatRule.{WhoFits};
-ghost use Rattle.board_core.specs.Loaded.{IsPage};
+ghost use Rattle.board_core.specs.Loaded.{IsPage, page_word};
 ghost use Rattle.board.specs.Seated.{who_of};
 ghost use Rattle.board_core.specs.Blocks.{atoms_in, block_size};
 ghost use Rattle.board_core.specs.Records.{code_word_at};
@@ -76,4 +76,17 @@ pub(crate) fn state_place(shape: Shape, page: u32) -> usize
     ensures { result ≡ states_at shape + (page - 1) }
 {
     3 + shape.loaders as usize + shape.searchers as usize + (page as usize - 1)
+}
+
+// The place of a word of a page.
+pub(crate) fn page_place(shape: Shape, page: u32, word: u8) -> usize
+    requires limits { IsShape shape }
+    requires page { IsPage shape page }
+    requires word { word < 16 }
+    ensures { result ≡ page_word shape page word }
+{
+    3 + shape.loaders as usize
+        + shape.searchers as usize
+        + shape.pages as usize
+        + (16 * (page as usize - 1) + word as usize)
 }

@@ -3,6 +3,7 @@ use crate::blocks::Coded;
 use crate::pages::Paged;
 use crate::regions::{Completed, Ended, Marked};
 use crate::steps::{Answers, Shown};
+use crate::tree::{Claims, Keeps, Reaches};
 use atomic_table::{Join, Play, Split};
 use board_core::View;
 use std::marker::PhantomData;
@@ -211,6 +212,94 @@ impl<P: Paged> Play<(), View> for RetirePage<P> {
     ghost use Rattle.board_core.specs.Steps.{Retires};
 
     ghost then = { Retires P.page };
+}
+
+pub(crate) struct LoadOwnCode<C> {
+    code: PhantomData<C>,
+}
+
+impl<C: Coded> Play<(), View> for LoadOwnCode<C> {
+    ghost use Rattle.board_core.specs.Steps.{LoadsOwnCode};
+
+    ghost then = { LoadsOwnCode C.loaded_row C.loaded_code };
+}
+
+pub(crate) struct BeginRow<C> {
+    code: PhantomData<C>,
+}
+
+impl<C: Coded> Play<(), View> for BeginRow<C> {
+    ghost use Rattle.board_core.specs.Steps.{BeginsRow};
+
+    ghost then = { BeginsRow C.loaded_row C.loaded_code };
+}
+
+pub(crate) struct StoreOwn<K> {
+    word: PhantomData<K>,
+}
+
+impl<K: Keeps> Play<(), View> for StoreOwn<K> {
+    ghost use Rattle.board_core.specs.Steps.{StoresOwn};
+
+    ghost then = { StoresOwn K.page K.place };
+}
+
+pub(crate) struct LoadHeader<R> {
+    page: PhantomData<R>,
+}
+
+impl<R: Reaches> Play<(), View> for LoadHeader<R> {
+    ghost use Rattle.board_core.specs.Steps.{LoadsHeader};
+
+    ghost then = { LoadsHeader R.number };
+}
+
+pub(crate) struct LoadSlot<R> {
+    page: PhantomData<R>,
+}
+
+impl<R: Reaches> Play<(), View> for LoadSlot<R> {
+    ghost use Rattle.board_core.specs.Steps.{LoadsSlot};
+
+    ghost then = { LoadsSlot R.number };
+}
+
+pub(crate) struct LoadLink<R> {
+    page: PhantomData<R>,
+}
+
+impl<R: Reaches> Play<(), View> for LoadLink<R> {
+    ghost use Rattle.board_core.specs.Steps.{LoadsLink};
+
+    ghost then = { LoadsLink R.number R.index R.code };
+}
+
+pub(crate) struct LoadMore<R> {
+    page: PhantomData<R>,
+}
+
+impl<R: Reaches> Play<(), View> for LoadMore<R> {
+    ghost use Rattle.board_core.specs.Steps.{LoadsMore};
+
+    ghost then = { LoadsMore R.number };
+}
+
+pub(crate) struct ClaimWord<C> {
+    claim: PhantomData<C>,
+}
+
+impl<C: Claims> Play<(), View> for ClaimWord<C> {
+    ghost use Rattle.board_core.specs.Steps.{ClaimsWord};
+
+    ghost then = { ClaimsWord C.claim };
+}
+
+pub(crate) struct LoadOwnHead;
+
+impl Play<(), View> for LoadOwnHead {
+    ghost use Rattle.board_core.specs.Steps.{LoadsOwnHead};
+
+    ghost then = { λ s m found n. LoadsOwnHead s.word s m found n };
 }
 
 /// A note has seen what the caller has.

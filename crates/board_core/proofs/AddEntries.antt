@@ -18,6 +18,8 @@ use Rattle.board_core.proofs.LogFrame.{log_same}
 use Rattle.board_core.proofs.LoadFrame.{loads_same, not_later}
 use Rattle.board_core.proofs.Stepped.{by_log, still}
 use Rattle.board_core.proofs.Answered.{answered_stories}
+use Rattle.board_core.proofs.ChainFrame.{chains_more}
+use Rattle.board_core.proofs.Stepped.{chains_here}
 
 pub answer : (k : Shape) (p : Parts) (vs : List View) (id : ℕ) (v : View) (es : List Entry) → Rule k p (history_of k p) vs → get_elem? vs id ≡ some v → AreTrue k v.me es
     → Rule k p (history_of k p) (set vs id (with_me v (after_answer v.me es)))
@@ -29,6 +31,7 @@ answer k p vs id v es r at true_all = by_log k p p (history_of k p) (history_of 
     (answered_stories k p vs id v (after_answer v.me es) es r at true_all refl refl)
     (full_more k vs id v (after_answer v.me es) es r.full at true_all.rooms refl refl)
     (empty_more k p.pool.states vs id v (after_answer v.me es) es r.empty at (pool_true k p.pool.states vs id v es r.pool.states at true_all.pages) refl)
+    (chains_more k p.pages p.pool.states vs id v (after_answer v.me es) es r.chains at refl (chains_here k p (history_of k p) vs id v es r at true_all.chains) refl)
     (loads_same k p.log p.log vs id v (after_answer v.me es) r.loads at (not_later p.log p.log refl refl) refl)
 
 pub answer_allowed : (k : Shape) (slots id : ℕ) (m : Mine) (es : List Entry) → AreTrue k m.0.me es → Allows (Holds k) slots id m 1 (λ n. n) (Answers es (step slots 1 0 0 none) m)

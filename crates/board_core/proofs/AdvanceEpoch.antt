@@ -20,7 +20,7 @@ use Rattle.board_core.specs.Steps.{Mine, MayAdvance, Advances}
 use Rattle.board_core.proofs.PoolFrame.{pool_claim, claim_here, held_here, scans_here, passed_here, alone_here, claim_later, states_same}
 use Rattle.board_core.proofs.Stepped.{still, words_moved}
 use Rattle.board_core.proofs.OwnFrame.{own_same}
-use Rattle.board_core.proofs.Pooled.{by_pool}
+use Rattle.board_core.proofs.Pooled.{linked_kept, tree_kept, by_pool}
 use Rattle.board_core.proofs.Changed.{set_epoch}
 
 -- the epoch is n then
@@ -43,6 +43,9 @@ advance k p h vs id e n v r at more come most = by_pool k p (record p.pool { epo
     (λ q busy. busy)
     (advance_pool k p.pool vs id e n v r.pool at more come most)
     (own_same p.pages vs id v (after_advance v.me e) r.own at refl)
+    record { begun = refl; placed = refl }
+    (linked_kept p.pool.states vs id v (after_advance v.me e) at (λ _. refl) (λ _. refl))
+    (tree_kept k p h vs id v (after_advance v.me e) r at refl (λ _. refl) (λ _. refl))
 
 pub advance_allowed : (k : Shape) (slots id e : ℕ) (m : Mine) → MayAdvance m.0.me e → Allows (Holds k) slots id m 2 (λ n. either (n == e) (e + 1) n) (Advances (step slots 2 e (e + 1) none) m)
 advance_allowed k slots id e m may s h _ at _ =

@@ -42,6 +42,15 @@ use Rattle.board_core.proofs.Stepped.{by_log}
 use Rattle.atomic_table.proofs.Lists.{set_else}
 use Rattle.board_core.specs.Accounts.{made_by, is_opener, is_seat}
 use Rattle.board_core.proofs.Callers.{seat_none}
+use Rattle.board_core.specs.Rows.{codes_in}
+use Rattle.board_core.specs.KnownRule.{no_rows}
+use Rattle.board_core.proofs.RowFrame.{rows_left, placed_begun}
+use Rattle.board_core.proofs.TreeFrame.{tree_note_goes}
+use Rattle.board_core.proofs.PoolSeats.{sheet_note_goes}
+use Rattle.board_core.proofs.ChainFrame.{chains_same}
+use Rattle.board_core.specs.Sheets.{Sheet, sheet_of}
+use Rattle.board_core.specs.ChainRule.{IsTrueChain, ChainRule}
+use Rattle.std.proofs.Common.{sym, subst}
 
 -- ---- a note's seat goes
 
@@ -96,6 +105,9 @@ note_goes k p h vs other front w r there is =
       facts = facts_note_goes k p.regions p.log.front vs other front w r.facts there is;
       own = own_left p.pages vs other r.own;
       pool = pool_note_goes k p.pool vs other front w r.pool there is;
+      rows = rows_left k vs other r.rows;
+      tree = tree_note_goes k p.pool.states p.pages (codes_in k p.regions) no_rows vs other front w (λ _ o. o) (λ n. placed_begun k vs n r.rows) there is (sheet_note_goes p.pool.states vs other front w there is) r.tree;
+      chains = subst (λ (x : Sheet). ChainRule k p.pages x (set vs other gone)) (sym (sheet_note_goes p.pool.states vs other front w there is)) (each_left (λ x. Each (λ e. IsTrueChain k p.pages (sheet_of p.pool.states vs) e.entry) x.entries) vs other (each_none (λ e. IsTrueChain k p.pages (sheet_of p.pool.states vs) e.entry)) r.chains);
       empty = each_left (λ x. Each (λ e. IsTruePool k p.pool.states e.entry) x.entries) vs other (each_none (λ e. IsTruePool k p.pool.states e.entry)) r.empty;
     }
 
@@ -129,6 +141,7 @@ hear k p h vs id front v r at seen = by_log k p p h h vs id v (after_hear v.me f
     (stories_same k h vs id v (after_hear v.me front) r.stories at refl refl)
     (full_same k vs id v (after_hear v.me front) r.full at refl refl)
     (empty_same k p.pool.states vs id v (after_hear v.me front) r.empty at refl)
+    (chains_same k p.pages p.pool.states vs id v (after_hear v.me front) r.chains at refl refl)
     (loads_same k p.log p.log vs id v (after_hear v.me front) r.loads at (not_later p.log p.log refl refl) refl)
 
 pub note_joins : (k : Shape) (id other front : ℕ) (v w : View) → w ≡ view w.shape (account Note front) → Joins (Holds k) id v other w (with_me v (after_hear v.me w.me.log.seen)) gone

@@ -12,6 +12,12 @@ module _ {A : Type 0} where
   inside (x ∷ xs) zero a e = omega arith
   inside (x ∷ xs) (suc i) a e = let k = inside xs i a e in omega arith
 
+  -- one element was changed twice
+  pub set_twice : (l : List A) (i : ℕ) (a b : A) → set (set l i a) i b ≡ set l i b
+  set_twice [] i a b = refl
+  set_twice (x ∷ xs) zero a b = refl
+  set_twice (x ∷ xs) (suc i) a b = ap (λ ys. x ∷ ys) (set_twice xs i a b)
+
   pub each_none : (F : A → Type 0) → Each F []
   each_none F j x e = absurd (some-ne-none x (sym e))
 

@@ -33,9 +33,10 @@ use Rattle.board_core.proofs.RecordFrame.{code_within}
 use Rattle.board_core.proofs.LoadSealed.{known_in_table, head_is, facts_head, facts_mark, facts_fact, facts_code}
 use Rattle.board_core.proofs.Stored.{part_at}
 use Rattle.board_core.proofs.Stepped.{by_load, still}
+use Rattle.board_core.proofs.ChainFrame.{chains_same}
 
 -- a load that no part reads but that of what was loaded of blocks
-load_of_block : (k : Shape) (p : Parts) (h : List Event) (vs : List View) (id : ℕ) (v : View) (l : Loads) → Rule k p h vs → get_elem? vs id ≡ some v → l.shown ≡ v.me.loads.shown → l.epochs ≡ v.me.loads.epochs → l.states ≡ v.me.loads.states → l.lost ≡ v.me.loads.lost → FactRule k p.regions p.log.front (set vs id (with_me v (record v.me { loads = l })))
+pub load_of_block : (k : Shape) (p : Parts) (h : List Event) (vs : List View) (id : ℕ) (v : View) (l : Loads) → Rule k p h vs → get_elem? vs id ≡ some v → l.shown ≡ v.me.loads.shown → l.epochs ≡ v.me.loads.epochs → l.states ≡ v.me.loads.states → l.lost ≡ v.me.loads.lost → FactRule k p.regions p.log.front (set vs id (with_me v (record v.me { loads = l })))
     → Rule k p h (set vs id (with_me v (record v.me { loads = l })))
 load_of_block k p h vs id v l r at same epochs states lost facts =
     let a : Account = record v.me { loads = l } in by_load k p p h h vs id v a r at
@@ -45,6 +46,7 @@ load_of_block k p h vs id v l r at same epochs states lost facts =
     (stories_same k h vs id v a r.stories at refl refl)
     (full_same k vs id v a r.full at refl refl)
     (empty_same k p.pool.states vs id v a r.empty at refl)
+    (chains_same k p.pages p.pool.states vs id v a r.chains at refl refl)
     (loads_same k p.log p.log vs id v a r.loads at (not_later p.log p.log refl refl) same)
     facts
 
@@ -54,7 +56,7 @@ some_board k key p vs id v a shape at r = subst (λ (z : Shape). MayBeSome z a) 
     (p, record { known = known k p (set vs id (with_me v a)) r; agrees = agrees k p (history_of k p) (set vs id (with_me v a)) id (with_me v a) r (set_here vs id (with_me v a) (inside vs id v at)) })
 
 -- the word of the table at a place of the regions
-found_at : (k : Shape) (ws : List ℕ) (place : ℕ) → regions_at k ≤ place → place < total_of k → word_at k (parts_of k ws).regions place ≡ get_or ws place 0
+pub found_at : (k : Shape) (ws : List ℕ) (place : ℕ) → regions_at k ≤ place → place < total_of k → word_at k (parts_of k ws).regions place ≡ get_or ws place 0
 found_at k ws place from until =
     let i : ℕ = place - regions_at k in
     let within : place < regions_at k + regions_size k = until in

@@ -26,7 +26,7 @@ use Rattle.board_core.proofs.PageSums.{no_stamp, only_total, parts_stamped, stam
 use Rattle.board_core.proofs.PoolFrame.{KeepsHeld, pool_moved, each_both, each_gives, claim_here, held_here, passed_here, all_held_kept, later_still, low_past, states_same}
 use Rattle.board_core.proofs.Stepped.{still}
 use Rattle.board_core.proofs.OwnFrame.{own_same}
-use Rattle.board_core.proofs.Pooled.{by_pool}
+use Rattle.board_core.proofs.Pooled.{linked_kept, tree_kept, by_pool}
 
 -- what a page's stamp becomes
 Stamped : (s t : Sheet) → ℕ → ℕ → Type 0
@@ -89,6 +89,9 @@ load_epoch k p h vs id v r at = by_pool k p p.pool h vs id v (after_epoch v.me p
     (λ q busy. busy)
     (epoch_pool k p.pool vs id v r.pool at)
     (own_same p.pages vs id v (after_epoch v.me p.pool.epoch) r.own at refl)
+    record { begun = refl; placed = refl }
+    (linked_kept p.pool.states vs id v (after_epoch v.me p.pool.epoch) at (λ _. refl) (λ q. parts_stamped p.pool.epoch q v.me.pool.parted))
+    (tree_kept k p h vs id v (after_epoch v.me p.pool.epoch) r at refl (λ _. refl) (λ q. parts_stamped p.pool.epoch q v.me.pool.parted))
 
 pub epoch_allowed : (k : Shape) (slots id : ℕ) (m : Mine) → Allows (Holds k) slots id m 2 (λ n. n) (LoadsEpoch (step slots 2 0 0 none) m)
 epoch_allowed k slots id m s h _ at _ =

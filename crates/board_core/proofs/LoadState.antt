@@ -24,7 +24,7 @@ use Rattle.board_core.proofs.Everyone.{mine, changed}
 use Rattle.board_core.proofs.PoolFrame.{pool_claim, claim_here, held_here, scans_here, passed_here, alone_here}
 use Rattle.board_core.proofs.Stepped.{still}
 use Rattle.board_core.proofs.OwnFrame.{own_same}
-use Rattle.board_core.proofs.Pooled.{by_pool, state_at}
+use Rattle.board_core.proofs.Pooled.{linked_kept, tree_kept, by_pool, state_at}
 
 -- an account that has loaded more of states, which all stand
 pub loads_pool : (k : Shape) (w : PoolWords) (vs : List View) (id : ℕ) (v : View) (l : Loads) → PoolRule k w vs → get_elem? vs id ≡ some v → l.epochs ≡ v.me.loads.epochs → StatesStand w.states l → PoolRule k w (set vs id (with_me v (record v.me { loads = l })))
@@ -49,6 +49,9 @@ load_state k p h vs id q v r at =
     (loads_pool k p.pool vs id v a.loads r.pool at refl
     record { seen = each_snoc (λ x. x.word ≢ 0 → p.pool.states x.page ≢ 0) v.me.loads.states (record { page = q; word = p.pool.states q }) (λ busy. busy) own.seen; lost = own.lost })
     (own_same p.pages vs id v (a) r.own at refl)
+    record { begun = refl; placed = refl }
+    (linked_kept p.pool.states vs id v (a) at (λ _. refl) (λ _. refl))
+    (tree_kept k p h vs id v (a) r at refl (λ _. refl) (λ _. refl))
 
 -- an exchange of the page's state was lost, and the page is not free
 pub lose_state : (k : Shape) (p : Parts) (h : List Event) (vs : List View) (id q : ℕ) (v : View) → Rule k p h vs → get_elem? vs id ≡ some v → p.pool.states q ≢ 0 → Rule k p h (set vs id (with_me v (after_lost v.me q (p.pool.states q))))
@@ -61,6 +64,9 @@ lose_state k p h vs id q v r at busy_now =
     (loads_pool k p.pool vs id v a.loads r.pool at refl
     record { seen = own.seen; lost = each_snoc (λ x. p.pool.states x.page ≢ 0) v.me.loads.lost (record { page = q; word = p.pool.states q }) busy_now own.lost })
     (own_same p.pages vs id v (a) r.own at refl)
+    record { begun = refl; placed = refl }
+    (linked_kept p.pool.states vs id v (a) at (λ _. refl) (λ _. refl))
+    (tree_kept k p h vs id v (a) r at refl (λ _. refl) (λ _. refl))
 
 pub state_allowed : (k : Shape) (slots id q at_word : ℕ) (m : Mine) → at_word ≡ states_at k + (q - 1) → IsPage k q → Allows (Holds k) slots id m at_word (λ n. n) (LoadsState q (step slots at_word 0 0 none) m)
 state_allowed k slots id q at_word m is page s h _ at _ =

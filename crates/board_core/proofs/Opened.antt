@@ -5,7 +5,12 @@ use Rattle.board_core.specs.declared.account.Account.{Account}
 use Rattle.board_core.specs.declared.account.View.{View}
 use Rattle.board_core.specs.declared.account.Who.TheVariants.{Opener, Gone}
 use Rattle.board_core.specs.Each.{Each}
-use Rattle.board_core.specs.Words.{Parts, parts_of, total_of, log_at}
+use Rattle.board_core.specs.Words.{Parts, parts_of, total_of, log_at, pages_at}
+use Rattle.board_core.specs.Rows.{codes_in}
+use Rattle.board_core.specs.KnownRule.{no_rows}
+use Rattle.board_core.proofs.RowFrame.{rows_open}
+use Rattle.board_core.proofs.TreeFrame.{tree_open}
+use Rattle.std.proofs.Common.{Bool, true, false, cond, nat_lt}
 use Rattle.board_core.specs.Accounts.{account, view, accounts_in, EachAccount}
 use Rattle.board_core.specs.SeatRule.{WhoFits}
 use Rattle.board_core.specs.LogRule.{hand_of, HandFits, IsByLoader}
@@ -34,6 +39,8 @@ use Rattle.board_core.specs.Accounts.{opener}
 use Rattle.board_core.proofs.Callers.{seat_none}
 use Rattle.board_core.proofs.Events.{event_within}
 use Rattle.htss_defs.specs.declared.history.Event.TheVariants.{Withdraw}
+use Rattle.board_core.specs.Sheets.{sheet_of}
+use Rattle.board_core.specs.ChainRule.{IsTrueChain}
 
 blank_at : (n i : ℕ) → get_or (zeros n) i 0 ≡ 0
 blank_at zero i = refl
@@ -112,6 +119,50 @@ opens_pool k some_page =
           subst (λ (x : ℕ × List ℕ). get_or (take x.0 x.1) i 0 ≤ 1) (λ t. (sym pages t, sym there t)) (small_state (k.pages - 1) i from_root));
     }
 
+-- ---- the root
+
+drop_past : (n m : ℕ) (ws : List ℕ) → drop (n + m) (zeros n ++ ws) ≡ drop m ws
+drop_past zero m ws = ap (λ (x : ℕ). drop x ws) (let e : 0 + m ≡ m = omega arith in e)
+drop_past (suc n) m ws = ap (λ (x : ℕ). drop x (0 ∷ (zeros n ++ ws))) (let e : suc n + m ≡ suc (n + m) = omega arith in e) ∙ drop_past n m ws
+
+unless : (b : Bool) (x : ℕ) → x ≡ 0 → cond b x 0 ≡ 0
+unless true x e = e
+unless false x e = refl
+
+head_of_root : (n i : ℕ) (ws : List ℕ) → ((j : ℕ) → get_or ws j 0 ≡ 0) → 0 < i → get_or (take n (2 ∷ ws)) i 0 ≡ 0
+head_of_root zero i ws blank above = refl
+head_of_root (suc n) zero ws blank above = absurd (omega arith)
+head_of_root (suc n) (suc i) ws blank above = blank_take ws n i blank
+
+one_state : (f : ℕ → ℕ) → ((i : ℕ) → f (suc i) ≡ 0) → (p : ℕ) → from_one f p ≡ 1 → p ≡ 1
+one_state f blank zero e = absurd (omega arith)
+one_state f blank (suc zero) e = refl
+one_state f blank (suc (suc i)) e = let none = blank i in absurd (omega arith)
+
+-- the words of its tree: one page
+record OpensTree (p : Parts) : Type 0 where
+  pub head : p.pages 1 0 ≡ 2
+  pub blank : (i : ℕ) → 0 < i → p.pages 1 i ≡ 0
+  pub first : p.pool.states 1 ≡ 1
+  pub only : (q : ℕ) → p.pool.states q ≡ 1 → q ≡ 1
+
+opens_tree : (k : Shape) → 0 < k.pages → OpensTree (parts_of k (opening_words k))
+opens_tree k some_page =
+    let count : ℕ = k.loaders + k.searchers in
+    let tail : ℕ = 16 * k.pages - 1 + k.log + regions_size k in
+    let from_root : List ℕ = 2 ∷ zeros tail in
+    let from_states : List ℕ = 1 ∷ (zeros (k.pages - 1) ++ from_root) in
+    let states : drop (states_at k) (opening_words k) ≡ from_states = ap (λ n. drop n (opening_words k)) (let e : states_at k ≡ suc (suc (suc count)) = omega arith in e) ∙ drop_zeros count from_states in
+    let pages : k.pages ≡ suc (k.pages - 1) = omega arith in
+    let root : drop (pages_at k) (opening_words k) ≡ from_root = ap (λ n. drop n (opening_words k)) (let e : pages_at k ≡ suc (suc (suc (count + suc (k.pages - 1)))) = omega arith in e)
+    ∙ (drop_past count (suc (k.pages - 1)) from_states ∙ drop_zeros (k.pages - 1) from_root) in
+    let wide : 16 * k.pages ≡ suc (16 * k.pages - 1) = omega arith in record {
+      head = (λ t. get_or (take (wide t) (root t)) 0 0);
+      blank = λ i above. unless (nat_lt i 16) (part (pages_at k) (16 * k.pages) (opening_words k) (0 + i)) (ap (λ (l : List ℕ). get_or (take (16 * k.pages) l) (0 + i) 0) root ∙ head_of_root (16 * k.pages) (0 + i) (zeros tail) (blank_at tail) (omega arith));
+      first = λ t. get_or (take (pages t) (states t)) 0 0;
+      only = one_state (part (states_at k) k.pages (opening_words k)) (λ i. (λ t. get_or (take (pages t) (states t)) (suc i) 0) ∙ take_zeros (k.pages - 1) i from_root);
+    }
+
 length_zeros : (n : ℕ) → length (zeros n) ≡ n
 length_zeros n = length-replicate {A = ℕ} n 0
 
@@ -136,8 +187,10 @@ no_withdrawal number target w = let within = event_within [] number (Withdraw w.
 legal_none : IsLegal []
 legal_none = record { earlier = λ number target w. absurd (no_withdrawal number target w); once = λ number other target w _. absurd (no_withdrawal number target w) }
 
-open_rule : (k : Shape) (p : Parts) → p.log.front ≡ 0 → p.log.lock ≡ 0 → ((i : ℕ) → p.log.slots i ≡ 0) → OpensPool p.pool → Rule k p [] (opener k ∷ [])
-open_rule k p front lock slots pool = record {
+open_rule : (k : Shape) (p : Parts) → p.log.front ≡ 0 → p.log.lock ≡ 0 → ((i : ℕ) → p.log.slots i ≡ 0) → OpensPool p.pool → OpensTree p → 0 < k.chain → Rule k p [] (opener k ∷ [])
+open_rule k p front lock slots pool tree some_chain = record {
+  rows = rows_open k;
+  tree = tree_open k p.pool.states p.pages (codes_in k p.regions) no_rows (λ _ o. o) some_chain tree.head tree.blank tree.first tree.only;
   seats = record {
     shapes = each_cons (λ (u : View). u.me.who ≢ Gone → u.shape ≡ k) (opener k) [] (λ _. refl) (each_none (λ (u : View). u.me.who ≢ Gone → u.shape ≡ k));
     limits = only (λ x. WhoFits k x.who) k (account (Opener 0) 0) (omega arith);
@@ -169,12 +222,13 @@ open_rule k p front lock slots pool = record {
   facts = facts_open k p.regions p.log.front;
   own = own_open p.pages k;
   pool = pool_open k p.pool pool;
+  chains = only (λ x. Each (λ e. IsTrueChain k p.pages (sheet_of p.pool.states (opener k ∷ [])) e.entry) x.entries) k (account (Opener 0) 0) (each_none (λ e. IsTrueChain k p.pages (sheet_of p.pool.states (opener k ∷ [])) e.entry));
   empty = only (λ x. Each (λ e. IsTruePool k p.pool.states e.entry) x.entries) k (account (Opener 0) 0) (each_none (λ e. IsTruePool k p.pool.states e.entry));
   loads = only (λ x. Each (LoadFits k p.log) x.loads.shown) k (account (Opener 0) 0) (each_none (LoadFits k p.log));
 }
 
-pub opens : (k : Shape) → 0 < k.pages → Holds k (opening (opening_words k) [] (opener k))
-opens k some_page = record {
+pub opens : (k : Shape) → 0 < k.pages → 0 < k.chain → Holds k (opening (opening_words k) [] (opener k))
+opens k some_page some_chain = record {
   wide = length_opening k some_page;
-  rule = open_rule k (parts_of k (opening_words k)) refl refl (λ i. blank_part (log_at k) k.log (opening_words k) i (blank_opening k some_page)) (opens_pool k some_page);
+  rule = open_rule k (parts_of k (opening_words k)) refl refl (λ i. blank_part (log_at k) k.log (opening_words k) i (blank_opening k some_page)) (opens_pool k some_page) (opens_tree k some_page) some_chain;
 }

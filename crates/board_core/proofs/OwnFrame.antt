@@ -29,7 +29,7 @@ each_kept_or : {A : Type 0} (F : A → Type 0) (x : A) (xs : List A) (b : Bool) 
 each_kept_or F x xs true first rest = rest
 each_kept_or F x xs false first rest = each_cons F x xs first rest
 
-each_without : {A : Type 0} (F : A → Type 0) (page : A → ℕ) (p : ℕ) (xs : List A) → Each F xs → Each F (without page p xs)
+pub each_without : {A : Type 0} (F : A → Type 0) (page : A → ℕ) (p : ℕ) (xs : List A) → Each F xs → Each F (without page p xs)
 each_without F page p [] all = all
 each_without F page p (x ∷ xs) all = each_kept_or F x (without page p xs) (eqb p (page x)) (all zero x refl) (each_without F page p xs (λ j. all (suc j)))
 

@@ -27,7 +27,7 @@ use Rattle.board_core.proofs.PoolFrame.{pool_claim, each_both, each_gives, claim
 use Rattle.board_core.proofs.Stepped.{still}
 use Rattle.board_core.proofs.Stored.{part_at}
 use Rattle.board_core.proofs.OwnFrame.{own_same}
-use Rattle.board_core.proofs.Pooled.{by_pool}
+use Rattle.board_core.proofs.Pooled.{linked_kept, tree_kept, by_pool}
 
 lower_most : (low n : ℕ) → lower low n ≤ low
 lower_most low n = dite (ℕ_discrete n 0) (λ z. let e = ap (λ b. cond b low (min low n)) (eq-eqb n 0 z) in omega arith) (λ z. let e = ap (λ b. cond b low (min low n)) (ne_eqb n 0 z) in omega arith)
@@ -68,6 +68,9 @@ pass k p h vs id i v r at here = by_pool k p p.pool h vs id v (after_pass v.me (
     (λ q busy. busy)
     (pass_pool k p.pool vs id i v r.pool at here)
     (own_same p.pages vs id v (after_pass v.me (p.pool.announced i)) r.own at refl)
+    record { begun = refl; placed = refl }
+    (linked_kept p.pool.states vs id v (after_pass v.me (p.pool.announced i)) at (λ _. refl) (λ _. refl))
+    (tree_kept k p h vs id v (after_pass v.me (p.pool.announced i)) r at refl (λ _. refl) (λ _. refl))
 
 pub pass_allowed : (k : Shape) (slots id i at_word : ℕ) (m : Mine) → at_word ≡ 3 + i → MayPass k m.0.me i → Allows (Holds k) slots id m at_word (λ n. n) (Passes (step slots at_word 0 0 none) m)
 pass_allowed k slots id i at_word m is may s h _ at _ =

@@ -65,6 +65,36 @@ pool_seats k w vs ws seat sheet more none lift r = let s : Sheet = sheet_of w.st
 
 -- ---- a view was added
 
+pub sheet_note : (states : ℕ → ℕ) (vs : List View) (shape : Shape) (front : ℕ) → sheet_of states (vs ++ view shape (account Note front) ∷ []) ≡ sheet_of states vs
+sheet_note states vs shape front =
+    let n : View = view shape (account Note front) in
+    let count : (f : Account → ℕ) → f (account Note front) ≡ 0 → total f (vs ++ n ∷ []) ≡ total f vs = λ f none. let sum = total_more f vs n refl in omega arith in
+    sheet_is states vs (vs ++ n ∷ []) (λ p. count (λ x. owns p x.pool.own) refl) (λ p. count (λ x. parts p x.pool.parted) refl) (λ p. count (λ x. stamps p x.pool.parted) refl)
+
+pub sheet_caller : (states : ℕ → ℕ) (k : Shape) (vs : List View) (id m : ℕ) (v : View) → get_elem? vs id ≡ some v → sheet_of states (set vs id (with_me v (after_made v.me)) ++ view k (account (caller_after k m) 0) ∷ []) ≡ sheet_of states vs
+sheet_caller states k vs id m v at =
+    let a : Account = after_made v.me in
+    let n : View = view k (account (caller_after k m) 0) in
+    let mid : List View = set vs id (with_me v a) in
+    let ws : List View = mid ++ n ∷ [] in
+    let count : (f : Account → ℕ) → f a ≡ f v.me → f n.me ≡ 0 → total f ws ≡ total f vs = λ f same none. let sum = total_more f mid n refl in let first = total_same f vs id v a at same in omega arith in
+    sheet_is states vs ws (λ p. count (λ x. owns p x.pool.own) refl refl) (λ p. count (λ x. parts p x.pool.parted) refl refl) (λ p. count (λ x. stamps p x.pool.parted) refl refl)
+
+pub sheet_note_goes : (states : ℕ → ℕ) (vs : List View) (other front : ℕ) (u : View) → get_elem? vs other ≡ some u → u ≡ view u.shape (account Note front) → sheet_of states (set vs other gone) ≡ sheet_of states vs
+sheet_note_goes states vs other front u there is =
+    let ws : List View = set vs other gone in
+    let count : (f : Account → ℕ) → f (account Note front) ≡ 0 → f (account Gone 0) ≡ 0 → total f ws ≡ total f vs = λ f none none_gone.
+    let sum : total f ws + sum_of f (accounts_in u) ≡ total f vs = total_left f vs other u there none_gone in
+    let of_note : sum_of f (accounts_in u) ≡ f (account Note front) + 0 = ap (λ (x : View). sum_of f (accounts_in x)) is in omega arith
+    in
+    sheet_is states vs ws (λ p. count (λ x. owns p x.pool.own) refl refl) (λ p. count (λ x. parts p x.pool.parted) refl refl) (λ p. count (λ x. stamps p x.pool.parted) refl refl)
+
+pub sheet_gather : (states : ℕ → ℕ) (vs : List View) (id other : ℕ) (v u : View) → get_elem? vs id ≡ some v → ¬ (other ≡ id) → get_elem? vs other ≡ some u → sheet_of states (set (set vs id (keeping v u)) other gone) ≡ sheet_of states vs
+sheet_gather states vs id other v u at apart there =
+    let ws : List View = set (set vs id (keeping v u)) other gone in
+    let count : (f : Account → ℕ) → f (account Gone 0) ≡ 0 → total f ws ≡ total f vs = λ f none_gone. total_gathered f vs id other v u at apart there none_gone in
+    sheet_is states vs ws (λ p. count (λ x. owns p x.pool.own) refl) (λ p. count (λ x. parts p x.pool.parted) refl) (λ p. count (λ x. stamps p x.pool.parted) refl)
+
 pub pool_note : (k : Shape) (w : PoolWords) (vs : List View) (shape : Shape) (front : ℕ) → PoolRule k w vs → PoolRule k w (vs ++ view shape (account Note front) ∷ [])
 pool_note k w vs shape front r =
     let n : View = view shape (account Note front) in

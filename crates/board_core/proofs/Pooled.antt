@@ -1,5 +1,5 @@
 -- What all steps of the pool owe the table: the parts of the rule that they leave alone, and the whole from its parts.
-use Rattle.std.proofs.Common.{◌≡◌, ◌≢◌, ℕ, suc, ◌+◌, ◌-◌, ◌<◌, ◌≤◌, List, length, set, get_or, refl, ap, ◌∙◌, arith}
+use Rattle.std.proofs.Common.{◌≡◌, ◌≢◌, ℕ, suc, ◌+◌, ◌-◌, ◌<◌, ◌≤◌, List, length, set, get_or, sym, refl, ap, ◌∙◌, arith}
 use mathlib.Core.Option.{some}
 use lib.ListN.{get_elem?}
 use Rattle.htss_defs.specs.declared.shape.Shape.{Shape}
@@ -14,7 +14,15 @@ use Rattle.board_core.specs.SeatRule.{WhoFits}
 use Rattle.board_core.specs.PoolRule.{PoolRule}
 use Rattle.board_core.specs.Loaded.{IsPage}
 use Rattle.board_core.specs.OwnRule.{OwnRule}
+use Rattle.board_core.specs.Sheets.{sheet_of, IsLinked, owns, parts}
+use Rattle.board_core.specs.Accounts.{total}
+use Rattle.board_core.specs.Rows.{codes_in}
+use Rattle.board_core.specs.KnownRule.{no_rows}
+use Rattle.board_core.specs.TreeRule.{TreeRule}
 use Rattle.board_core.specs.Holds.{Rule}
+use Rattle.board_core.proofs.Everyone.{total_same}
+use Rattle.board_core.proofs.RowFrame.{rows_same, placed_begun}
+use Rattle.board_core.proofs.TreeFrame.{lift_same, keeps_same, tree_lifted}
 use Rattle.board_core.proofs.SeatFrame.{seats_same}
 use Rattle.board_core.proofs.LogFrame.{log_same}
 use Rattle.board_core.proofs.StoryFrame.{stories_same}
@@ -28,6 +36,7 @@ use Rattle.board_core.proofs.EmptyFrame.{empty_later}
 use Rattle.board_core.proofs.Stored.{part_at}
 use Rattle.board_core.proofs.Changed.{set_state}
 use Rattle.board_core.specs.declared.room.RoomAccount.{RoomAccount}
+use Rattle.board_core.proofs.ChainFrame.{chains_later, same_pages}
 
 -- the step leaves all that is not of the pool, the tree or the counts
 pub record LeavesLog (a b : Account) : Type 0 where
@@ -41,10 +50,41 @@ pub record LeavesLog (a b : Account) : Type 0 where
   pub codes : b.loads.codes ≡ a.loads.codes
   pub marks : b.loads.marks ≡ a.loads.marks
 
+-- and the rows that were begun and placed
+pub record SameRows (a b : Account) : Type 0 where
+  pub begun : b.tree.begun ≡ a.tree.begun
+  pub placed : b.tree.placed ≡ a.tree.placed
+
+-- where the same pages are linked, and the caller knows of the tree what it knew
+pub tree_stays : (k : Shape) (p : Parts) (h : List Event) (g : ℕ → ℕ) (vs : List View) (id : ℕ) (v : View) (a : Account) → Rule k p h vs → get_elem? vs id ≡ some v → a.tree ≡ v.me.tree
+    → ((q : ℕ) → IsLinked (sheet_of p.pool.states vs) q → IsLinked (sheet_of g (set vs id (with_me v a))) q) → ((q : ℕ) → IsLinked (sheet_of g (set vs id (with_me v a))) q → IsLinked (sheet_of p.pool.states vs) q)
+    → TreeRule k g p.pages (codes_in k p.regions) no_rows (set vs id (with_me v a))
+tree_stays k p h g vs id v a r at same more less = tree_lifted k p.pool.states g p.pages (codes_in k p.regions) (codes_in k p.regions) no_rows no_rows vs (set vs id (with_me v a)) (λ j u spot i x there r o. o) (λ _ o. o) more less
+    (λ _ _. refl) (λ n. placed_begun k vs n r.rows) (lift_same vs id v a at same) (keeps_same vs id v a at same) r.tree
+
+-- where no page's numbers change
+pub linked_kept : (f : ℕ → ℕ) (vs : List View) (id : ℕ) (v : View) (a : Account) → get_elem? vs id ≡ some v → ((q : ℕ) → owns q a.pool.own ≡ owns q v.me.pool.own) → ((q : ℕ) → parts q a.pool.parted ≡ parts q v.me.pool.parted)
+    → (q : ℕ) → IsLinked (sheet_of f vs) q → IsLinked (sheet_of f (set vs id (with_me v a))) q
+linked_kept f vs id v a at own parted q l = record {
+  busy = l.busy;
+  owned = total_same (λ x. owns q x.pool.own) vs id v a at (own q) ∙ l.owned;
+  parted = total_same (λ x. parts q x.pool.parted) vs id v a at (parted q) ∙ l.parted;
+}
+
+pub tree_kept : (k : Shape) (p : Parts) (h : List Event) (vs : List View) (id : ℕ) (v : View) (a : Account) → Rule k p h vs → get_elem? vs id ≡ some v → a.tree ≡ v.me.tree
+    → ((q : ℕ) → owns q a.pool.own ≡ owns q v.me.pool.own) → ((q : ℕ) → parts q a.pool.parted ≡ parts q v.me.pool.parted) → TreeRule k p.pool.states p.pages (codes_in k p.regions) no_rows (set vs id (with_me v a))
+tree_kept k p h vs id v a r at same own parted =
+    let o : (q : ℕ) → total (λ x. owns q x.pool.own) (set vs id (with_me v a)) ≡ total (λ x. owns q x.pool.own) vs = λ q. total_same (λ x. owns q x.pool.own) vs id v a at (own q) in
+    let u : (q : ℕ) → total (λ x. parts q x.pool.parted) (set vs id (with_me v a)) ≡ total (λ x. parts q x.pool.parted) vs = λ q. total_same (λ x. parts q x.pool.parted) vs id v a at (parted q) in
+    tree_stays k p h p.pool.states vs id v a r at same
+    (λ q l. record { busy = l.busy; owned = o q ∙ l.owned; parted = u q ∙ l.parted })
+    (λ q l. record { busy = l.busy; owned = sym (o q) ∙ l.owned; parted = sym (u q) ∙ l.parted })
+
 -- a step of the pool, after which no page is free that was not. All other parts are framed here
 pub by_pool : (k : Shape) (p : Parts) (w : PoolWords) (h : List Event) (vs : List View) (id : ℕ) (v : View) (a : Account) → Rule k p h vs → get_elem? vs id ≡ some v → LeavesLog v.me a
-    → ((q : ℕ) → p.pool.states q ≢ 0 → w.states q ≢ 0) → PoolRule k w (set vs id (with_me v a)) → OwnRule p.pages (set vs id (with_me v a)) → Rule k (record p { pool = w }) h (set vs id (with_me v a))
-by_pool k p w h vs id v a r at rest busy pool own = record {
+    → ((q : ℕ) → p.pool.states q ≢ 0 → w.states q ≢ 0) → PoolRule k w (set vs id (with_me v a)) → OwnRule p.pages (set vs id (with_me v a)) → SameRows v.me a → ((q : ℕ) → IsLinked (sheet_of p.pool.states vs) q → IsLinked (sheet_of w.states (set vs id (with_me v a))) q) → TreeRule k w.states p.pages (codes_in k p.regions) no_rows (set vs id (with_me v a)) → Rule k (record p { pool = w }) h (set vs id (with_me v a))
+by_pool k p w h vs id v a r at rest busy pool own alike linked tree = record {
+  chains = chains_later k p.pages p.pages (sheet_of p.pool.states vs) (sheet_of w.states (set vs id (with_me v a))) vs id v a r.chains at (same_pages p.pages (sheet_of p.pool.states vs) (sheet_of w.states (set vs id (with_me v a))) linked) rest.entries;
   seats = seats_same k vs id v a r.seats at rest.who;
   log = log_same k p.log h vs id v a r.log at (λ i. record { who = rest.who i; log = rest.log i });
   stories = stories_same k h vs id v a r.stories at rest.who rest.entries;
@@ -57,6 +97,8 @@ by_pool k p w h vs id v a r at rest busy pool own = record {
   pool = pool;
   own = own;
   empty = empty_later k p.pool.states w.states vs id v a r.empty at busy rest.entries;
+  rows = rows_same k vs id v a r.rows at rest.who (ap (λ (x : RoomAccount). x.used) rest.room) (ap (λ (x : RoomAccount). x.sealed) rest.room) alike.begun alike.placed;
+  tree = tree;
 }
 
 -- ---- the word of a page's state, by the number of the page

@@ -38,7 +38,7 @@ code_within head atom code below few = within ((bytes_in head + 7) / 8) (atoms_i
     within : (names atoms bonds : ℕ) → atom < atoms → (3 ≤ 3 + names + atoms + (5 * atom + code)) × (3 + names + atoms + (5 * atom + code) < 3 + names + atoms + 5 * atoms + bonds)
     within names atoms bonds less = (omega arith, omega arith)
 
-same_code : (f g : ℕ → ℕ) (atom code : ℕ) → ShowSame f g → atom < atoms_in (f 0) → code < 5 → g (code_word_at (g 0) atom code) ≡ f (code_word_at (f 0) atom code)
+pub same_code : (f g : ℕ → ℕ) (atom code : ℕ) → ShowSame f g → atom < atoms_in (f 0) → code < 5 → g (code_word_at (g 0) atom code) ≡ f (code_word_at (f 0) atom code)
 same_code f g atom code same below few = let place = code_within (f 0) atom code below few in ap (λ h. g (code_word_at h atom code)) same.head ∙ same.words (code_word_at (f 0) atom code) place.0 place.1
 
 pub record_same : (f g : ℕ → ℕ) → ShowSame f g → IsRecord f → IsRecord g
@@ -65,7 +65,7 @@ records_same k vs id v a r at who used sealed = changed (AreRecords k) vs id v a
     (subst (λ (x : Who × List ℕ × List Sealed). ShowRecords k x.0 x.1 x.2) (λ t. (sym who t, sym used t, sym sealed t)) (mine (AreRecords k) vs id v at r)) r
 
 -- one word more is stored: the blocks before it stay
-own_longer : (k : Shape) (regions : ℕ → ℕ) (a : Account) (word : ℕ) (more : List Sealed) → RoomFits k regions (store_of a) → Each (λ s. ShowSame (own_block k (store_of a) s.place) (own_block k (store_of (after_word a word more)) s.place)) a.room.sealed
+pub own_longer : (k : Shape) (regions : ℕ → ℕ) (a : Account) (word : ℕ) (more : List Sealed) → RoomFits k regions (store_of a) → Each (λ s. ShowSame (own_block k (store_of a) s.place) (own_block k (store_of (after_word a word more)) s.place)) a.room.sealed
 own_longer k regions a word more f j s there =
     let used : List ℕ = a.room.used in
     let fits = f.sealed j s there in

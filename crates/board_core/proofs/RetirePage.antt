@@ -28,8 +28,12 @@ use Rattle.board_core.proofs.PoolFrame.{Keeps, KeepsHeld, each_gives, pool_claim
 use Rattle.board_core.proofs.Stepped.{words_moved}
 use Rattle.board_core.proofs.Stored.{stored_here, stored_else}
 use Rattle.board_core.proofs.OwnFrame.{own_retired}
-use Rattle.board_core.proofs.Pooled.{by_pool, put_state}
+use Rattle.board_core.proofs.Pooled.{tree_stays, by_pool, put_state}
 use Rattle.board_core.proofs.TakePage.{page_same, page_kept, never_free, states_kept}
+use Rattle.board_core.specs.Sheets.{IsLinked}
+use Rattle.board_core.specs.Rows.{codes_in}
+use Rattle.board_core.specs.KnownRule.{no_rows}
+use Rattle.board_core.specs.TreeRule.{TreeRule}
 
 -- ---- whose the page is
 
@@ -105,6 +109,39 @@ retire_pool k w vs id p n v r at may =
     r.held)
     (states_kept w.states p (n + 1) vs id v b (omega arith) r.states at refl)
 
+-- pages of the tree stay in it
+retire_linked : (k : Shape) (w : PoolWords) (vs : List View) (id q n : ℕ) (v : View) → PoolRule k w vs → get_elem? vs id ≡ some v → MayRetire k v.me q n
+    → (x : ℕ) → IsLinked (sheet_of w.states vs) x → IsLinked (sheet_of (stored w.states q (n + 1)) (set vs id (with_me v (after_retire v.me q)))) x
+retire_linked k w vs id q n v r at may x l =
+    let a : Account = v.me in
+    let b : Account = after_retire a q in
+    let s : Sheet = sheet_of w.states vs in
+    let is = ones k w vs id q n v r at may in
+    let other : x ≢ q = λ y. let lq : IsLinked s q = subst (λ (z : ℕ). IsLinked s z) y l in let none = lq.owned in let none2 = lq.parted in let one : s.owned q + s.parted q ≡ 1 = is.one in omega arith in
+    record {
+      busy = stored_else w.states q (n + 1) x other ∙ l.busy;
+      owned = total_same (λ y. owns x y.pool.own) vs id v b at (without_else (λ o. o.page) (λ _. 1) q x (λ z. other (sym z)) a.pool.own) ∙ l.owned;
+      parted = total_same (λ y. parts x y.pool.parted) vs id v b at (without_else (λ u. u.page) (λ _. 1) q x (λ z. other (sym z)) a.pool.parted) ∙ l.parted;
+    }
+
+-- the same pages are linked: the page was somebody's, and has a stamp now
+retire_tree : (k : Shape) (p : Parts) (h : List Event) (vs : List View) (id q n : ℕ) (v : View) → Rule k p h vs → get_elem? vs id ≡ some v → MayRetire k v.me q n
+    → TreeRule k (stored p.pool.states q (n + 1)) p.pages (codes_in k p.regions) no_rows (set vs id (with_me v (after_retire v.me q)))
+retire_tree k p h vs id q n v r at may =
+    let a : Account = v.me in
+    let b : Account = after_retire a q in
+    let g : ℕ → ℕ = stored p.pool.states q (n + 1) in
+    let s : Sheet = sheet_of p.pool.states vs in
+    let t : Sheet = sheet_of g (set vs id (with_me v b)) in
+    let is = ones k p.pool vs id q n v r.pool at may in
+    let above = is.above in
+    let owned_same : (x : ℕ) → x ≢ q → t.owned x ≡ s.owned x = λ x m. total_same (λ y. owns x y.pool.own) vs id v b at (without_else (λ o. o.page) (λ _. 1) q x (λ z. m (sym z)) a.pool.own) in
+    let parted_same : (x : ℕ) → x ≢ q → t.parted x ≡ s.parted x = λ x m. total_same (λ y. parts x y.pool.parted) vs id v b at (without_else (λ u. u.page) (λ _. 1) q x (λ z. m (sym z)) a.pool.parted) in
+    tree_stays k p h g vs id v b r at refl
+    (retire_linked k p.pool vs id q n v r.pool at may)
+    (λ x l. let other : x ≢ q = λ y. let word : g q ≡ n + 1 = stored_here p.pool.states q (n + 1) in let one : g q ≡ 1 = ap g (sym y) ∙ l.busy in omega arith in
+    record { busy = sym (stored_else p.pool.states q (n + 1) x other) ∙ l.busy; owned = sym (owned_same x other) ∙ l.owned; parted = sym (parted_same x other) ∙ l.parted })
+
 pub retire_page : (k : Shape) (p : Parts) (h : List Event) (vs : List View) (id q n : ℕ) (v : View) → Rule k p h vs → get_elem? vs id ≡ some v → MayRetire k v.me q n
     → Rule k (record p { pool = record p.pool { states = stored p.pool.states q (n + 1) } }) h (set vs id (with_me v (after_retire v.me q)))
 retire_page k p h vs id q n v r at may = by_pool k p (record p.pool { states = stored p.pool.states q (n + 1) }) h vs id v (after_retire v.me q) r at
@@ -112,6 +149,9 @@ retire_page k p h vs id q n v r at may = by_pool k p (record p.pool { states = s
     (never_free p.pool.states q (n + 1) (omega arith))
     (retire_pool k p.pool vs id q n v r.pool at may)
     (own_retired p.pages vs id q v r.own at)
+    record { begun = refl; placed = refl }
+    (retire_linked k p.pool vs id q n v r.pool at may)
+    (retire_tree k p h vs id q n v r at may)
 
 pub retire_allowed : (k : Shape) (slots id q n at_word : ℕ) (m : Mine) → at_word ≡ states_at k + (q - 1) → MayRetire k m.0.me q n → Allows (Holds k) slots id m at_word (λ _. n + 1) (λ _. Retires q (step slots at_word (n + 1) 0 none) m 0)
 retire_allowed k slots id q n at_word m is may s h _ at _ = let p : Parts = parts_of k s.words in (

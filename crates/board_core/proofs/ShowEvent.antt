@@ -50,6 +50,9 @@ use Rattle.htss_defs.specs.History.{HasEvent}
 use Rattle.board_core.proofs.Changed.{set_front}
 use Rattle.board_core.proofs.Events.{event_last, legal_more, by_other, by_this}
 use Rattle.board_core.proofs.Shown.{history_grown, caller_shown, may_follow}
+use Rattle.board_core.proofs.RowFrame.{rows_same}
+use Rattle.board_core.specs.Sheets.{sheet_of}
+use Rattle.board_core.proofs.ChainFrame.{chains_more, event_chain}
 
 shown_holds : (w u : LogWords) (a : Account) (e : Event) → u.lock ≡ w.lock → u.front ≡ w.front + 1 → a.log.holding ≡ Fronted → HoldsLock w (hand_of a) a.log.holding → HoldsLock u (hand_of (after_event a e)) a.log.holding
 shown_holds w u a e lock front held holds = let own = owner w (hand_of a) a.log.holding held holds in
@@ -107,7 +110,7 @@ loader_made k vs id v c r at is = dite (dec_le c (made vs)) (λ within. within)
     let most : is_seat k c v.me.who ≤ total (λ y. is_seat k c y.who) vs = at_most (λ y. is_seat k c y.who) vs id v at in
     let one = seat_one k v.me.who c is in absurd (omega arith))
 
-told_event : (l : Loads) (number : ℕ) (e : Event) → told_in (noted l (entry_of number e ∷ [])) ≡ e ∷ []
+told_event : (l : Loads) (number : ℕ) (e : Event) → told_in (noted l (entry_of number e ∷ [])) ≡ (number, e) ∷ []
 told_event l number (Publish caller name mol) = refl
 told_event l number (Withdraw caller target) = refl
 
@@ -115,15 +118,15 @@ true_event : (k : Shape) (h : List Event) (number : ℕ) (e : Event) → HasEven
 true_event k h number (Publish caller name mol) has = has
 true_event k h number (Withdraw caller target) has = has
 
-own_event : (h : List Event) (e : Event) (who : Who) → who ≡ Loader (caller_of e) → own_events (h ++ e ∷ []) who ≡ own_events h who ++ e ∷ []
-own_event h e who is = subst (λ (x : Who). own_events (h ++ e ∷ []) x ≡ own_events h x ++ e ∷ []) (sym is) (by_this h e (caller_of e) refl)
+own_event : (h : List Event) (e : Event) (who : Who) (number : ℕ) → who ≡ Loader (caller_of e) → number ≡ length h + 1 → own_events (h ++ e ∷ []) who ≡ own_events h who ++ (number, e) ∷ []
+own_event h e who number is next = subst (λ (x : Who). own_events (h ++ e ∷ []) x ≡ own_events h x ++ (number, e) ∷ []) (sym is) (by_this h e (caller_of e) number refl next)
 
 shown_story : (k : Shape) (h : List Event) (e : Event) (a : Account) (number : ℕ) → number ≡ length h + 1 → a.who ≡ Loader (caller_of e) → IsTrueStory k h a.who a.entries
     → IsTrueStory k (h ++ e ∷ []) a.who (a.entries ++ noted a.loads (entry_of number e ∷ []))
 shown_story k h e a number is who t = record {
   each = each_append (λ n. IsTrueLog k (h ++ e ∷ []) n.entry) a.entries (noted a.loads (entry_of number e ∷ [])) (λ j n there. true_more k h e n.entry (t.each j n there))
       (each_cons (λ n. IsTrueLog k (h ++ e ∷ []) n.entry) _ [] (true_event k (h ++ e ∷ []) number e (subst (λ n. HasEvent (h ++ e ∷ []) n e) (sym is) (event_last h e))) (each_none (λ n. IsTrueLog k (h ++ e ∷ []) n.entry)));
-  own = own_event h e a.who who ∙ (ap (λ l. l ++ e ∷ []) t.own ∙ (ap (λ l. told_in a.entries ++ l) (sym (told_event a.loads number e)) ∙ sym (told_in-append a.entries (noted a.loads (entry_of number e ∷ [])))));
+  own = own_event h e a.who number who is ∙ (ap (λ l. l ++ (number, e) ∷ []) t.own ∙ (ap (λ l. told_in a.entries ++ l) (sym (told_event a.loads number e)) ∙ sym (told_in-append a.entries (noted a.loads (entry_of number e ∷ [])))));
 }
 
 pub shown_stories : (k : Shape) (h : List Event) (vs : List View) (id : ℕ) (v : View) (e : Event) → SeatRule k vs → StoryRule k h vs → get_elem? vs id ≡ some v → v.me.who ≡ Loader (caller_of e) → 0 < caller_of e → v.me.log.seen ≡ length h
@@ -193,11 +196,14 @@ show_event k p vs id word v e r at may is =
     (shown_stories k h vs id v e r.seats r.stories at who by.0 (own.1 ∙ sym r.log.counted))
     (full_more k vs id v (after_event v.me e) (entry_of (v.me.log.seen + 1) e ∷ []) r.full at (event_room (k.room - length v.me.room.used) (v.me.log.seen + 1) e) (published_used v.me.log.pending.shows v.me.room) refl)
     (empty_more k p.pool.states vs id v (after_event v.me e) (entry_of (v.me.log.seen + 1) e ∷ []) r.empty at (event_pool k p.pool.states (v.me.log.seen + 1) e) refl)
+    (chains_more k p.pages p.pool.states vs id v (after_event v.me e) (entry_of (v.me.log.seen + 1) e ∷ []) r.chains at refl (event_chain k p.pages (sheet_of p.pool.states vs) (v.me.log.seen + 1) e) refl)
     (loads_same k p.log u vs id v (after_event v.me e) r.loads at record { front = omega arith; slots = λ i _. refl } refl)
     (shown_rooms k p.regions p.log.front p.log.slots vs id word v e r.rooms at may.logged next.there (own.0 ∙ ap (λ z. Loader z) (sym next.own)))
     (shown_marks k p vs id word v e r.marks r.seats r.log r.rooms at may)
     (records_same k vs id v (after_event v.me e) r.records at refl (kept_used v.me.log.pending.shows v.me.room) (kept_sealed v.me.log.pending.shows v.me.room))
     (facts_same k p.regions p.log.front (p.log.front + 1) vs id v (after_event v.me e) r.facts at (kept_sealed v.me.log.pending.shows v.me.room) record { heads = refl; facts = refl; codes = refl; marks = refl } (omega arith))
+    (rows_same k vs id v (after_event v.me e) r.rows at refl (kept_used v.me.log.pending.shows v.me.room) (kept_sealed v.me.log.pending.shows v.me.room) refl refl)
+    (λ j u there i x here b s in_list t _ _ _. refl)
 
 pub show_allowed : (k : Shape) (slots id n word : ℕ) (m : Mine) (e : Event) → n ≡ m.0.me.log.seen + 1 → MayShowEvent m.0.me word → event_by k m.0.me word ≡ e → Allows (Holds k) slots id m 0 (λ _. n) (λ _. ShowsEvent e (step slots 0 n 0 none) m n)
 show_allowed k slots id n word m e is may knows s h _ at _ =

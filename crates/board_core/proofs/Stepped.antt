@@ -1,5 +1,5 @@
 -- What all steps of the log owe the table: the parts of the rule that they leave alone, and the whole from its parts.
-use Rattle.std.proofs.Common.{◌≡◌, ℕ, List, set, get_or, sym, ap, ◌∙◌, subst, length-set, arith}
+use Rattle.std.proofs.Common.{◌≡◌, ℕ, ◌+◌, ◌-◌, List, set, get_or, sym, ap, ◌∙◌, subst, length-set, arith}
 use mathlib.Core.Option.{some}
 use lib.ListN.{get_elem?}
 use lib.Seq.{set-get_or}
@@ -16,10 +16,18 @@ use Rattle.board_core.specs.StoryRule.{StoryRule}
 use Rattle.board_core.specs.LoadRule.{LoadRule}
 use Rattle.board_core.specs.FullRule.{FullRule}
 use Rattle.board_core.specs.EmptyRule.{EmptyRule}
+use Rattle.board_core.specs.RoomRule.{SameSealed}
+use Rattle.board_core.specs.Sheets.{sheet_of, owns}
+use Rattle.board_core.specs.Rows.{codes_in, RowRule}
+use Rattle.board_core.specs.KnownRule.{no_rows}
+use Rattle.board_core.specs.TreeRule.{TreeRule}
+use Rattle.board_core.proofs.PoolFrame.{sheet_same}
+use Rattle.board_core.proofs.RowFrame.{rows_same, codes_stay, placed_begun}
+use Rattle.board_core.proofs.TreeFrame.{linked_same, lift_same, keeps_same, tree_lifted}
 use Rattle.board_core.specs.PoolRule.{PoolRule}
 use Rattle.board_core.specs.Held.{held_in}
 use Rattle.board_core.specs.declared.tree.TreeAccount.{TreeAccount}
-use Rattle.board_core.specs.Words.{PoolWords}
+use Rattle.board_core.specs.Words.{PoolWords, regions_at}
 use Rattle.board_core.proofs.PoolFrame.{pool_same}
 use Rattle.board_core.specs.RoomRule.{store_of, RoomRule}
 use Rattle.board_core.specs.MarkRule.{MarkRule}
@@ -35,6 +43,13 @@ use Rattle.board_core.specs.declared.pool.PoolAccount.{PoolAccount}
 use Rattle.board_core.proofs.OwnFrame.{own_same}
 use Rattle.board_core.specs.Holds.{Rule, Holds}
 use Rattle.board_core.proofs.SeatFrame.{seats_same}
+use Rattle.board_core.specs.declared.entry.Entry.{Entry}
+use Rattle.board_core.specs.Each.{Each}
+use Rattle.board_core.specs.Rows.{IsPlaced}
+use Rattle.board_core.specs.KnownRule.{Knows}
+use Rattle.board_core.specs.ChainRule.{ChainRule, IsTrueChain, IsToldChain}
+use Rattle.board_core.proofs.Everyone.{mine}
+use Rattle.board_core.proofs.ChainFrame.{chains_true}
 
 abbrev pub St : Type 0
 St = State (Unit {0}) View
@@ -60,9 +75,9 @@ pub record LeavesRegions (p q : Parts) (a b : Account) : Type 0 where
 
 -- a step of the log that changes the regions or what is known of them. Parts of the pool, the tree and the counts are framed here
 pub by_region : (k : Shape) (p q : Parts) (h g : List Event) (vs : List View) (id : ℕ) (v : View) (a : Account) → Rule k p h vs → get_elem? vs id ≡ some v → LeavesRest p q v.me a
-    → LogRule k q.log g (set vs id (with_me v a)) → StoryRule k g (set vs id (with_me v a)) → FullRule k (set vs id (with_me v a)) → EmptyRule k q.pool.states (set vs id (with_me v a)) → LoadRule k q.log (set vs id (with_me v a)) → RoomRule k q.regions q.log.front q.log.slots (set vs id (with_me v a))
-    → MarkRule k q.regions q.log.front q.log.slots (set vs id (with_me v a)) → RecordRule k (set vs id (with_me v a)) → FactRule k q.regions q.log.front (set vs id (with_me v a)) → Rule k q g (set vs id (with_me v a))
-by_region k p q h g vs id v a r at rest log stories full empty loads rooms marks records facts = record {
+    → LogRule k q.log g (set vs id (with_me v a)) → StoryRule k g (set vs id (with_me v a)) → FullRule k (set vs id (with_me v a)) → EmptyRule k q.pool.states (set vs id (with_me v a)) → ChainRule k q.pages (sheet_of q.pool.states (set vs id (with_me v a))) (set vs id (with_me v a)) → LoadRule k q.log (set vs id (with_me v a)) → RoomRule k q.regions q.log.front q.log.slots (set vs id (with_me v a))
+    → MarkRule k q.regions q.log.front q.log.slots (set vs id (with_me v a)) → RecordRule k (set vs id (with_me v a)) → FactRule k q.regions q.log.front (set vs id (with_me v a)) → RowRule k (set vs id (with_me v a)) → SameSealed k p.regions q.regions vs → Rule k q g (set vs id (with_me v a))
+by_region k p q h g vs id v a r at rest log stories full empty chains loads rooms marks records facts rows same = record {
   seats = seats_same k vs id v a r.seats at rest.who;
   log = log;
   stories = stories;
@@ -76,23 +91,37 @@ by_region k p q h g vs id v a r at rest log stories full empty loads rooms marks
       (pool_same k p.pool vs id v a r.pool at rest.who rest.pool (ap (λ (t : TreeAccount). held_in t.reached) rest.tree) rest.epochs rest.states rest.lost);
   own = subst (λ (w : ℕ → ℕ → ℕ). OwnRule w (set vs id (with_me v a))) (sym rest.page_words) (own_same p.pages vs id v a r.own at (ap (λ (x : PoolAccount). x.own) rest.pool));
   empty = empty;
+  rows = rows;
+  chains = chains;
+  tree = subst (λ (x : (ℕ → ℕ) × (ℕ → ℕ → ℕ)). TreeRule k x.0 x.1 (codes_in k q.regions) no_rows (set vs id (with_me v a))) (λ i. ((sym rest.pool_words i).states, sym rest.page_words i))
+      (let sheet : sheet_of p.pool.states (set vs id (with_me v a)) ≡ sheet_of p.pool.states vs = sheet_same p.pool.states vs id v a at (λ n. ap (λ (x : PoolAccount). owns n x.own) rest.pool) (ap (λ (x : PoolAccount). x.parted) rest.pool) in
+      tree_lifted k p.pool.states p.pool.states p.pages (codes_in k p.regions) (codes_in k q.regions) no_rows no_rows vs (set vs id (with_me v a)) (λ j u spot i x there r o. o) (λ _ o. o)
+      (linked_same (sheet_of p.pool.states vs) (sheet_of p.pool.states (set vs id (with_me v a))) sheet) (linked_same (sheet_of p.pool.states (set vs id (with_me v a))) (sheet_of p.pool.states vs) (sym sheet))
+      (codes_stay k p.regions q.regions vs r.rooms.rooms r.rows same) (λ n. placed_begun k vs n r.rows) (lift_same vs id v a at rest.tree) (keeps_same vs id v a at rest.tree) r.tree);
 }
+
+-- what is answered of a full chain, by what the caller has read
+pub chains_here : (k : Shape) (p : Parts) (h : List Event) (vs : List View) (id : ℕ) (v : View) (es : List Entry) → Rule k p h vs → get_elem? vs id ≡ some v → Each (IsToldChain k v.me) es → Each (IsTrueChain k p.pages (sheet_of p.pool.states vs)) es
+chains_here k p h vs id v es r at told = chains_true p.pages (sheet_of p.pool.states vs) r.tree.place (codes_in k p.regions) (IsPlaced vs) r.tree.tree k v.me (no_rows v.me.tree.front) es
+    (mine (λ x. Knows p.pages (sheet_of p.pool.states vs) r.tree.place (codes_in k p.regions) (IsPlaced vs) no_rows x.tree) vs id v at r.tree.known).known told
 
 -- a step of the log alone. Parts of the regions are framed here, but what was loaded of blocks
 pub by_load : (k : Shape) (p q : Parts) (h g : List Event) (vs : List View) (id : ℕ) (v : View) (a : Account) → Rule k p h vs → get_elem? vs id ≡ some v → LeavesRest p q v.me a → LeavesRegions p q v.me a
-    → LogRule k q.log g (set vs id (with_me v a)) → StoryRule k g (set vs id (with_me v a)) → FullRule k (set vs id (with_me v a)) → EmptyRule k q.pool.states (set vs id (with_me v a)) → LoadRule k q.log (set vs id (with_me v a)) → FactRule k q.regions q.log.front (set vs id (with_me v a)) → Rule k q g (set vs id (with_me v a))
-by_load k p q h g vs id v a r at rest regions log stories full empty loads facts =
+    → LogRule k q.log g (set vs id (with_me v a)) → StoryRule k g (set vs id (with_me v a)) → FullRule k (set vs id (with_me v a)) → EmptyRule k q.pool.states (set vs id (with_me v a)) → ChainRule k q.pages (sheet_of q.pool.states (set vs id (with_me v a))) (set vs id (with_me v a)) → LoadRule k q.log (set vs id (with_me v a)) → FactRule k q.regions q.log.front (set vs id (with_me v a)) → Rule k q g (set vs id (with_me v a))
+by_load k p q h g vs id v a r at rest regions log stories full empty chains loads facts =
     let move : (F : (ℕ → ℕ) → ℕ → (ℕ → ℕ) → Type 0) → F p.regions p.log.front p.log.slots → F q.regions q.log.front q.log.slots = λ F t. subst (λ (x : (ℕ → ℕ) × ℕ × (ℕ → ℕ)). F x.0 x.1 x.2) (λ i. (sym regions.words i, sym regions.front i, sym regions.slots i)) t in
-    by_region k p q h g vs id v a r at rest log stories full empty loads
+    by_region k p q h g vs id v a r at rest log stories full empty chains loads
     (move (λ x y z. RoomRule k x y z (set vs id (with_me v a))) (rooms_same k p.regions p.log.front p.log.slots vs id v a r.rooms at regions.store))
     (move (λ x y z. MarkRule k x y z (set vs id (with_me v a))) (marks_same k p.regions p.log.front p.log.slots vs id v a r.marks at regions.store))
     (records_same k vs id v a r.records at rest.who (ap (λ (x : Store). x.room.used) regions.store) (ap (λ (x : Store). x.room.sealed) regions.store))
     facts
+    (rows_same k vs id v a r.rows at rest.who (ap (λ (x : Store). x.room.used) regions.store) (ap (λ (x : Store). x.room.sealed) regions.store) (ap (λ (x : TreeAccount). x.begun) rest.tree) (ap (λ (x : TreeAccount). x.placed) rest.tree))
+    (λ j u there i x here b s in_list t _ _ _. ap (λ (f : ℕ → ℕ). f (s.place + t - regions_at k)) regions.words)
 
 -- a step of the log that loads nothing of blocks
 pub by_log : (k : Shape) (p q : Parts) (h g : List Event) (vs : List View) (id : ℕ) (v : View) (a : Account) → Rule k p h vs → get_elem? vs id ≡ some v → LeavesRest p q v.me a → LeavesRegions p q v.me a → SameLoads a.loads v.me.loads
-    → LogRule k q.log g (set vs id (with_me v a)) → StoryRule k g (set vs id (with_me v a)) → FullRule k (set vs id (with_me v a)) → EmptyRule k q.pool.states (set vs id (with_me v a)) → LoadRule k q.log (set vs id (with_me v a)) → Rule k q g (set vs id (with_me v a))
-by_log k p q h g vs id v a r at rest regions alike log stories full empty loads = by_load k p q h g vs id v a r at rest regions log stories full empty loads
+    → LogRule k q.log g (set vs id (with_me v a)) → StoryRule k g (set vs id (with_me v a)) → FullRule k (set vs id (with_me v a)) → EmptyRule k q.pool.states (set vs id (with_me v a)) → ChainRule k q.pages (sheet_of q.pool.states (set vs id (with_me v a))) (set vs id (with_me v a)) → LoadRule k q.log (set vs id (with_me v a)) → Rule k q g (set vs id (with_me v a))
+by_log k p q h g vs id v a r at rest regions alike log stories full empty chains loads = by_load k p q h g vs id v a r at rest regions log stories full empty chains loads
     (subst (λ (x : (ℕ → ℕ) × ℕ). FactRule k x.0 x.1 (set vs id (with_me v a))) (λ i. (sym regions.words i, sym regions.front i))
     (facts_same k p.regions p.log.front p.log.front vs id v a r.facts at (ap (λ (x : Store). x.room.sealed) regions.store) alike (omega arith)))
 

@@ -38,6 +38,9 @@ use Rattle.board_core.proofs.Some.{some_changed}
 use Rattle.board_core.proofs.Owner.{IsAt, mark_rooms, mark_same}
 use Rattle.board_core.proofs.Stepped.{by_region, words_moved}
 use Rattle.board_core.proofs.Changed.{set_region}
+use Rattle.board_core.specs.RoomRule.{SameSealed}
+use Rattle.board_core.proofs.RowFrame.{rows_same}
+use Rattle.board_core.proofs.ChainFrame.{chains_same}
 
 marked_holds : (w : LogWords) (a b : Account) → a.log.holding ≡ Fronted → b.who ≡ a.who → b.log.seen ≡ a.log.seen → HoldsLock w (hand_of a) a.log.holding → HoldsLock w (hand_of b) a.log.holding
 marked_holds w a b e who seen holds = let own = owner w (hand_of a) a.log.holding e holds in subst (HoldsLock w (hand_of b)) (sym e) (who ∙ own.0, seen ∙ own.1)
@@ -111,12 +114,14 @@ record Marked (k : Shape) (p : Parts) (vs : List View) (i n : ℕ) : Type 0 wher
   same : history_of k (with_region p i n) ≡ history_of k p
   rooms : RoomRule k (stored p.regions i n) p.log.front p.log.slots vs
   facts : FactRule k (stored p.regions i n) p.log.front vs
+  stay : SameSealed k p.regions (stored p.regions i n) vs
 
 marked : (k : Shape) (p : Parts) (vs : List View) (b : Account) (i n : ℕ) → Rule k p (history_of k p) vs → IsAt vs b → IsMark b.room.sealed (regions_at k + i) → p.log.front < n → ¬ ((0 < p.regions i) × (p.regions i ≤ p.log.front)) → Marked k p vs i n
 marked k p vs b i n r q mark past not_told = record {
   same = history_kept k p (stored p.regions i n) vs r.rooms (mark_same k p.regions vs b i n r.seats r.rooms.rooms q mark);
   rooms = record { rooms = mark_rooms k p.regions vs b i n r.seats r.rooms.rooms q mark; named = r.rooms.named };
   facts = facts_marked k p.regions p.log.front p.log.slots vs b i n r.facts r.seats r.rooms q mark past not_told;
+  stay = mark_same k p.regions vs b i n r.seats r.rooms.rooms q mark;
 }
 
 -- the word of the regions at a mark's place
@@ -140,11 +145,14 @@ shows k p vs id block i n v r at may place number =
     (stories_same k h vs id v a r.stories at refl refl)
     (full_same k vs id v a r.full at refl refl)
     (empty_same k p.pool.states vs id v a r.empty at refl)
+    (chains_same k p.pages p.pool.states vs id v a r.chains at refl refl)
     (loads_same k p.log p.log vs id v a r.loads at (not_later p.log p.log refl refl) refl)
     (shows_rooms k q.regions p.log.front p.log.slots vs id block v new.rooms at sealed)
     (shows_marks k p vs id block i n v r.marks r.seats r.log r.rooms at may place number)
     (records_same k vs id v a r.records at refl refl refl)
-    (facts_same k q.regions p.log.front p.log.front vs id v a new.facts at refl record { heads = refl; facts = refl; codes = refl; marks = refl } (omega arith)))
+    (facts_same k q.regions p.log.front p.log.front vs id v a new.facts at refl record { heads = refl; facts = refl; codes = refl; marks = refl } (omega arith))
+    (rows_same k vs id v a r.rows at refl refl refl refl refl)
+    new.stay)
 
 pub ends : (k : Shape) (p : Parts) (vs : List View) (id i n : ℕ) (v : View) (e : Ending) → Rule k p (history_of k p) vs → get_elem? vs id ≡ some v → MayEnd k v.me e → regions_at k + i ≡ e.block + 2 → n ≡ v.me.log.seen + 1
     → Rule k (with_region p i n) (history_of k (with_region p i n)) (set vs id (with_me v (after_ends v.me e)))
@@ -165,11 +173,14 @@ ends k p vs id i n v e r at may place number =
     (stories_same k h vs id v a r.stories at refl refl)
     (full_same k vs id v a r.full at refl refl)
     (empty_same k p.pool.states vs id v a r.empty at refl)
+    (chains_same k p.pages p.pool.states vs id v a r.chains at refl refl)
     (loads_same k p.log p.log vs id v a r.loads at (not_later p.log p.log refl refl) refl)
     (ends_rooms k q.regions p.log.front p.log.slots vs id v e new.rooms at)
     (ends_marks k p vs id i n v e r.marks r.seats r.log r.rooms r.loads stand at may place number)
     (records_same k vs id v a r.records at refl refl refl)
-    (facts_same k q.regions p.log.front p.log.front vs id v a new.facts at refl record { heads = refl; facts = refl; codes = refl; marks = refl } (omega arith)))
+    (facts_same k q.regions p.log.front p.log.front vs id v a new.facts at refl record { heads = refl; facts = refl; codes = refl; marks = refl } (omega arith))
+    (rows_same k vs id v a r.rows at refl refl refl refl refl)
+    new.stay)
 
 pub shows_allowed : (k : Shape) (slots id place i n block : ℕ) (m : Mine) → place ≡ regions_at k + i → i < regions_size k → place ≡ block + 1 → n ≡ m.0.me.log.seen + 1 → MayPublish k m.0.me block
     → Allows (Holds k) slots id m place (λ _. n) (λ _. Shows block (step slots place n 0 none) m n)

@@ -38,6 +38,8 @@ use Rattle.board_core.proofs.WordRoom.{Adds, next_at, word_rooms, word_same, in_
 use Rattle.board_core.proofs.MarkWord.{word_marks}
 use Rattle.board_core.proofs.RecordFrame.{records_word}
 use Rattle.board_core.proofs.FactFrame.{facts_word}
+use Rattle.board_core.proofs.RowFrame.{rows_word}
+use Rattle.board_core.proofs.ChainFrame.{chains_same}
 
 pub store_word : (k : Shape) (p : Parts) (vs : List View) (id loader word : ℕ) (v : View) (more : List Sealed) → Rule k p (history_of k p) vs → get_elem? vs id ≡ some v → MayStore k v.me loader → Adds k v.me word more → Each (MaySeal k v.me word) more
     → Rule k (record p { regions = stored p.regions (next_at k v.me) word }) (history_of k (record p { regions = stored p.regions (next_at k v.me) word })) (set vs id (with_me v (after_word v.me word more)))
@@ -52,11 +54,14 @@ store_word k p vs id loader word v more r at may adds seals =
     (stories_same k h vs id v a r.stories at refl refl)
     (full_later k vs id v a r.full at (let longer = length_push v.me.room.used word in omega arith) refl)
     (empty_same k p.pool.states vs id v a r.empty at refl)
+    (chains_same k p.pages p.pool.states vs id v a r.chains at refl refl)
     (loads_same k p.log p.log vs id v a r.loads at (not_later p.log p.log refl refl) refl)
     (word_rooms k p.regions p.log.front p.log.slots vs id loader word v more r.seats r.rooms at may adds)
     (word_marks k p.regions p.log.front p.log.slots vs id loader word v more r.marks r.seats r.rooms at may seals)
     (records_word k p.regions vs id word v more r.records r.rooms.rooms at seals)
-    (facts_word k p.regions p.log.front p.log.slots vs id loader word v more r.facts r.seats r.rooms at may))
+    (facts_word k p.regions p.log.front p.log.slots vs id loader word v more r.facts r.seats r.rooms at may)
+    (rows_word k p.regions vs id word v more r.rows r.rooms.rooms at)
+    (word_same k p.regions vs id loader word v r.seats r.rooms.rooms at may))
 
 -- the place is in the table's regions
 next_inside : (k : Shape) (a : Account) (loader : ℕ) → MayStore k a loader → WhoFits k a.who → (region_of k a.who + length a.room.used ≡ regions_at k + next_at k a) × (next_at k a < regions_size k)

@@ -67,7 +67,7 @@ true_more k h e (Ended number at) t = withdraws_more h e at number t
 true_more k h e (LogFull front) t = let within : front ≤ length h = t.0 in (omega (arith, length-append h (e ∷ [])), t.1)
 true_more k h e (DataFull left need) t = tt
 true_more k h e NoPage t = tt
-true_more k h e (ChainFull pages) t = absurd t
+true_more k h e (ChainFull pages) t = tt
 true_more k h e (Swept need front rows) t = absurd t
 
 -- an event by another caller

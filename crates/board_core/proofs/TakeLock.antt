@@ -31,6 +31,7 @@ use Rattle.board_core.proofs.StoryFrame.{stories_same}
 use Rattle.board_core.proofs.LoadFrame.{loads_same, not_later}
 use Rattle.board_core.proofs.Stepped.{by_log, still, words_moved}
 use Rattle.board_core.proofs.Changed.{set_lock}
+use Rattle.board_core.proofs.ChainFrame.{chains_same}
 
 -- where the lock is free nobody has it
 all_free : (k : Shape) (w : LogWords) (h : List Event) (vs : List View) (a : Account) → LogRule k w h vs → w.lock ≡ 0 → (x : Account) → IsOther vs a x → is_held x.log.holding ≡ 0
@@ -77,6 +78,7 @@ take k p h vs id c v r at who may free = by_log k p (record p { log = record p.l
     (stories_same k h vs id v (after_take v.me) r.stories at refl refl)
     (full_same k vs id v (after_take v.me) r.full at refl refl)
     (empty_same k p.pool.states vs id v (after_take v.me) r.empty at refl)
+    (chains_same k p.pages p.pool.states vs id v (after_take v.me) r.chains at refl refl)
     (loads_same k p.log (record p.log { lock = c }) vs id v (after_take v.me) r.loads at (not_later p.log (record p.log { lock = c }) refl refl) refl)
 
 pub take_allowed : (k : Shape) (slots id c : ℕ) (m : Mine) → m.0.me.who ≡ Loader c → MayTake m.0.me → Allows (Holds k) slots id m 1 (λ n. either (n == 0) c n) (Takes (step slots 1 0 c none) m)

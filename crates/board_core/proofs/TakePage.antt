@@ -32,8 +32,12 @@ use Rattle.board_core.proofs.PoolFrame.{Keeps, KeepsHeld, each_both, each_gives,
 use Rattle.board_core.proofs.Stepped.{still, words_moved}
 use Rattle.board_core.proofs.Stored.{stored_here, stored_else}
 use Rattle.board_core.proofs.OwnFrame.{own_taken}
-use Rattle.board_core.proofs.Pooled.{by_pool, seat_within, state_at, put_state}
+use Rattle.board_core.proofs.Pooled.{by_pool, tree_stays, seat_within, state_at, put_state}
 use Rattle.board_core.proofs.LoadState.{lose_state}
+use Rattle.board_core.specs.Rows.{codes_in}
+use Rattle.board_core.specs.KnownRule.{no_rows}
+use Rattle.board_core.specs.TreeRule.{TreeRule}
+use Rattle.board_core.specs.Sheets.{IsLinked}
 
 -- ---- pages of which no number changed
 
@@ -116,6 +120,35 @@ take_pool k w vs id loader p v seats r at may =
     (each_both _ _ vs r.held (not_held k w vs id loader p v seats r at may)))
     (states_kept w.states p 1 vs id v b (omega arith) r.states at refl)
 
+-- pages of the tree stay in it
+take_linked : (k : Shape) (w : PoolWords) (vs : List View) (id loader q : ℕ) (v : View) → get_elem? vs id ≡ some v → MayTakePage k v.me loader q (w.states q)
+    → (x : ℕ) → IsLinked (sheet_of w.states vs) x → IsLinked (sheet_of (stored w.states q 1) (set vs id (with_me v (after_page v.me q)))) x
+take_linked k w vs id loader q v at may x l =
+    let b : Account = after_page v.me q in
+    let s : Sheet = sheet_of w.states vs in
+    let t : Sheet = sheet_of (stored w.states q 1) (set vs id (with_me v b)) in
+    let other : x ≢ q = λ y. may.other (ap w.states (sym y) ∙ l.busy) in
+    let sum : t.owned x + owns x v.me.pool.own ≡ s.owned x + (where_page x q 1 + owns x v.me.pool.own) = total_changed (λ y. owns x y.pool.own) vs id v b at in
+    let z = where_other x q 1 other in let none = l.owned in
+    record { busy = stored_else w.states q 1 x other ∙ l.busy; owned = omega arith; parted = total_same (λ y. parts x y.pool.parted) vs id v b at refl ∙ l.parted }
+
+-- the same pages are linked: the page was free or retired, and is one's own now
+take_tree : (k : Shape) (p : Parts) (h : List Event) (vs : List View) (id loader q : ℕ) (v : View) → Rule k p h vs → get_elem? vs id ≡ some v → MayTakePage k v.me loader q (p.pool.states q)
+    → TreeRule k (stored p.pool.states q 1) p.pages (codes_in k p.regions) no_rows (set vs id (with_me v (after_page v.me q)))
+take_tree k p h vs id loader q v r at may =
+    let b : Account = after_page v.me q in
+    let g : ℕ → ℕ = stored p.pool.states q 1 in
+    let s : Sheet = sheet_of p.pool.states vs in
+    let t : Sheet = sheet_of g (set vs id (with_me v b)) in
+    let parted_same : (x : ℕ) → t.parted x ≡ s.parted x = λ x. total_same (λ y. parts x y.pool.parted) vs id v b at refl in
+    let owned_more : (x : ℕ) → t.owned x ≡ s.owned x + where_page x q 1 = λ x.
+    let sum : t.owned x + owns x v.me.pool.own ≡ s.owned x + (where_page x q 1 + owns x v.me.pool.own) = total_changed (λ y. owns x y.pool.own) vs id v b at in omega arith in
+    tree_stays k p h g vs id v b r at refl
+    (take_linked k p.pool vs id loader q v at may)
+    (λ x l. let e = owned_more x in let none = l.owned in
+    let other : x ≢ q = λ y. let one = where_same x q 1 y in omega arith in let z = where_other x q 1 other in
+    record { busy = sym (stored_else p.pool.states q 1 x other) ∙ l.busy; owned = omega arith; parted = sym (parted_same x) ∙ l.parted })
+
 pub take_page : (k : Shape) (p : Parts) (h : List Event) (vs : List View) (id loader q : ℕ) (v : View) → Rule k p h vs → get_elem? vs id ≡ some v → MayTakePage k v.me loader q (p.pool.states q)
     → Rule k (record p { pool = record p.pool { states = stored p.pool.states q 1 } }) h (set vs id (with_me v (after_page v.me q)))
 take_page k p h vs id loader q v r at may = by_pool k p (record p.pool { states = stored p.pool.states q 1 }) h vs id v (after_page v.me q) r at
@@ -123,12 +156,15 @@ take_page k p h vs id loader q v r at may = by_pool k p (record p.pool { states 
     (never_free p.pool.states q 1 (omega arith))
     (take_pool k p.pool vs id loader q v r.seats r.pool at may)
     (own_taken p.pages vs id q v r.own at)
+    record { begun = refl; placed = refl }
+    (take_linked k p.pool vs id loader q v at may)
+    (take_tree k p h vs id loader q v r at may)
 
 -- a page that was found changed is not free
 changed_busy : (k : Shape) (w : PoolWords) (vs : List View) (id loader q x : ℕ) (v : View) → PoolRule k w vs → get_elem? vs id ≡ some v → MayTakePage k v.me loader q x → w.states q ≢ x → w.states q ≢ 0
 changed_busy k w vs id loader q x v r at may other = dite (ℕ_discrete x 0)
     (λ z e. other (e ∙ sym z))
-    (λ some_x. let (j, l, there, page, word) = may.seen some_x in
+    (λ some_x. let (j, l, there, page, word) = may.seen in
     subst (λ (z : ℕ). w.states z ≢ 0) page ((mine (λ a. StatesStand w.states a.loads) vs id v at r.states).seen j l there (λ z. some_x (sym word ∙ z))))
 
 pub page_allowed : (k : Shape) (slots id loader q x at_word : ℕ) (m : Mine) → at_word ≡ states_at k + (q - 1) → MayTakePage k m.0.me loader q x → Allows (Holds k) slots id m at_word (λ n. either (n == x) 1 n) (TakesPage q (step slots at_word x 1 none) m)

@@ -1,5 +1,5 @@
 -- The account after each kind of step.
-use Rattle.std.specs.Prelude.{ℕ, ◌+◌, ◌==◌, false, List, [], ◌∷◌, ◌++◌, map, length, max, min, Option, Some, None, if◌then◌else◌}
+use Rattle.std.specs.Prelude.{ℕ, zero, suc, ◌+◌, ◌==◌, Bool, true, false, set, take, get_or, List, [], ◌∷◌, ◌++◌, map, length, max, min, Option, Some, None, if◌then◌else◌}
 use Rattle.htss_defs.specs.declared.history.Event.{Event}
 use Rattle.board_core.specs.declared.account.Account.{Account}
 use Rattle.board_core.specs.declared.log.Holding.{Holding}
@@ -9,8 +9,11 @@ use Rattle.board_core.specs.declared.room.RoomAccount.{RoomAccount}
 use Rattle.board_core.specs.declared.room.Row.{Row}
 use Rattle.board_core.specs.declared.room.Sealed.{Sealed}
 use Rattle.board_core.specs.declared.pool.Parted.{Parted}
-use Rattle.board_core.specs.declared.tree.Way.TheVariants.{More}
-use Rattle.board_core.specs.declared.tree.Link.TheVariants.{Unread}
+use Rattle.board_core.specs.declared.tree.Way.TheVariants.{More, Branch}
+use Rattle.board_core.specs.declared.tree.Link.{Link}
+use Rattle.board_core.specs.declared.pool.Own.{Own}
+use Rattle.board_core.specs.Rows.{entry_word}
+use Rattle.board_core.specs.declared.tree.Link.TheVariants.{Unread, Absent, To}
 use Rattle.board_core.specs.declared.tree.Reached.{Reached}
 use Rattle.board_core.specs.declared.loads.Loads.{Loads}
 use Rattle.board_core.specs.declared.loads.Lengths.{Lengths}
@@ -178,3 +181,74 @@ without page p (x ∷ xs) = keep_unless p (page x) x (without page p xs)
 
 abbrev pub after_retire : Account → ℕ → Account
 after_retire a p = record a { pool = record a.pool { own = without (λ o. o.page) p a.pool.own; parted = without (λ u. u.page) p a.pool.parted } }
+
+-- ---- the class tree
+
+-- word i of an own page is stored: the first i words, and it
+abbrev pub with_word : ℕ → ℕ → Own → Own
+with_word i n o = record { page = o.page; words = take i o.words ++ n ∷ [] }
+
+abbrev pub put_if : ℕ → ℕ → ℕ → Own → Own
+put_if p i n o = if p == o.page then with_word i n o else o
+
+abbrev pub put_own : ℕ → ℕ → ℕ → List Own → List Own
+put_own p i n [] = []
+put_own p i n (o ∷ os) = put_if p i n o ∷ put_own p i n os
+
+abbrev pub after_own : Account → ℕ → ℕ → ℕ → Account
+after_own a p i n = record a { pool = record a.pool { own = put_own p i n a.pool.own } }
+
+-- the page of this number among those that were reached, from 0: the root where there is none
+abbrev pub visited : List Reached → ℕ → Reached
+visited rs j = get_or rs j root
+
+abbrev pub with_reached : Account → List Reached → Account
+with_reached a rs = record a { tree = record a.tree { reached = rs } }
+
+-- the next code or entry of a page was loaded: 0 is its end
+abbrev pub with_slot : ℕ → Reached → Reached
+with_slot zero x = record x { zero = true }
+with_slot (suc n) x = record x { zero = false; slots = x.slots ++ suc n ∷ []; links = x.links ++ Unread ∷ [] }
+
+abbrev pub after_slot : Account → ℕ → ℕ → Account
+after_slot a j n = with_reached a (set a.tree.reached j (with_slot n (visited a.tree.reached j)))
+
+-- a link was loaded
+abbrev pub with_link : ℕ → Link → Reached → Reached
+with_link i l x = record x { links = set x.links i l }
+
+abbrev pub led : Reached → ℕ → ℕ → ℕ → Bool → Reached
+led x i c n leaf = record { page = n; from = x.page; way = Branch i; path = x.path ++ c ∷ []; rank = 0; leaf = leaf; slots = []; zero = false; links = []; more = Unread }
+
+abbrev pub after_link : Account → ℕ → ℕ → ℕ → ℕ → Bool → Account
+after_link a j i c zero leaf = with_reached a (set a.tree.reached j (with_link i Absent (visited a.tree.reached j)))
+after_link a j i c (suc n) leaf = with_reached a (set a.tree.reached j (with_link i (To (suc n)) (visited a.tree.reached j)) ++ led (visited a.tree.reached j) i c (suc n) leaf ∷ [])
+
+-- the next page of a chain was loaded
+abbrev pub with_more : Link → Reached → Reached
+with_more l x = record x { more = l }
+
+abbrev pub next_of : Reached → ℕ → Reached
+next_of x n = record { page = n; from = x.page; way = More; path = x.path; rank = x.rank + 1; leaf = x.leaf; slots = []; zero = false; links = []; more = Unread }
+
+abbrev pub after_more : Account → ℕ → ℕ → Account
+after_more a j zero = with_reached a (set a.tree.reached j (with_more Absent (visited a.tree.reached j)))
+after_more a j (suc n) = with_reached a (set a.tree.reached j (with_more (To (suc n)) (visited a.tree.reached j)) ++ next_of (visited a.tree.reached j) (suc n) ∷ [])
+
+-- an own page is in the tree, and a row may be placed with it
+abbrev pub let_go : ℕ → List Own → List Own
+let_go n os = without (λ o. o.page) n os
+
+abbrev pub after_linked : Account → ℕ → List Row → Account
+after_linked a n rows = record a { pool = record a.pool { own = let_go n a.pool.own }; tree = record a.tree { placed = a.tree.placed ++ rows } }
+
+abbrev pub after_inner : Account → ℕ → Account
+after_inner a n = record a { pool = record a.pool { own = let_go n a.pool.own } }
+
+-- an entry is the caller's row
+abbrev pub after_entry : Account → ℕ → Row → Account
+after_entry a j r = record a { tree = record a.tree { reached = set a.tree.reached j (with_slot (entry_word r) (visited a.tree.reached j)); placed = a.tree.placed ++ r ∷ [] } }
+
+-- a row is begun
+abbrev pub after_begun : Account → Row → Account
+after_begun a r = record a { tree = record a.tree { begun = a.tree.begun ++ r ∷ [] } }

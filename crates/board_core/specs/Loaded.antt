@@ -1,5 +1,5 @@
 -- What a caller has loaded of the log, of blocks and of their marks.
-use Rattle.std.specs.Prelude.{◌≡◌, ℕ, ◌+◌, ◌-◌, ◌<◌, ◌≤◌, ◌⊎◌}
+use Rattle.std.specs.Prelude.{◌≡◌, ◌≢◌, ℕ, ◌+◌, ◌*◌, ◌-◌, ◌<◌, ◌≤◌, ◌⊎◌, true, false, List, [], ◌∷◌, ◌++◌, length}
 use mathlib.Core.Option.{some}
 use lib.ListN.{get_elem?}
 use Rattle.htss_defs.specs.declared.shape.Shape.{Shape}
@@ -8,7 +8,15 @@ use Rattle.board_core.specs.declared.loads.ShownLoad.{ShownLoad}
 use Rattle.board_core.specs.declared.loads.WordLoad.{WordLoad}
 use Rattle.board_core.specs.declared.loads.StateLoad.{StateLoad}
 use Rattle.board_core.specs.Sheets.{owns, parts, stamps}
-use Rattle.board_core.specs.Words.{log_at, regions_at, total_of}
+use Rattle.board_core.specs.Words.{log_at, pages_at, regions_at, total_of, zeros}
+use Rattle.board_core.specs.declared.room.Row.{Row}
+use Rattle.board_core.specs.declared.tree.Reached.{Reached}
+use Rattle.board_core.specs.declared.tree.Way.TheVariants.{More, Branch}
+use Rattle.board_core.specs.Each.{Each, In}
+use Rattle.board_core.specs.ClassTree.{Place, IsBelow}
+use Rattle.board_core.specs.KnownPages.{IsMate}
+use Rattle.board_core.specs.Rows.{entry_word, own_codes, HasRow}
+use Rattle.board_core.specs.After.{visited}
 use Rattle.board_core.specs.LogWord.{kind_in, target_in}
 use Rattle.board_core.specs.declared.loads.CodeLoad.{CodeLoad}
 use Rattle.board_core.specs.Blocks.{ended_at, block_size, atoms_in, code_words_at, bond_words_at}
@@ -114,3 +122,44 @@ HasParted a p n = (0 < n) × (0 < parts p a.pool.parted) × (stamps p a.pool.par
 -- the page is the caller's own
 abbrev pub HasOwn : Account → ℕ → Type 0
 HasOwn a p = 0 < owns p a.pool.own
+
+-- ---- the class tree
+
+-- the place of a page's word in the table
+abbrev pub page_word : Shape → ℕ → ℕ → ℕ
+page_word k p i = pages_at k + (16 * (p - 1) + i)
+
+-- a page of the table that was reached, by its number
+pub record IsVisit (k : Shape) (a : Account) (j : ℕ) : Type 0 where
+  pub reached : j < length a.tree.reached
+  pub inside : IsPage k (visited a.tree.reached j).page
+
+-- the page is the caller's own, and these words were stored in it
+pub record HasStored (a : Account) (p : ℕ) (words : List ℕ) : Type 0 where
+  pub own : HasOwn a p
+  pub stored : Each (λ o. o.page ≡ p → o.words ≡ words) a.pool.own
+
+-- a page with one code, or one entry
+abbrev pub one_word : ℕ → ℕ → List ℕ
+one_word header n = header ∷ 0 ∷ n ∷ zeros 13
+
+-- where a leaf below a code stands, and the next page of a chain
+abbrev pub leaf_place : Reached → ℕ → ℕ → Place
+leaf_place x i c = record { path = x.path ++ c ∷ []; rank = 0; leaf = true; from = x.page; way = Branch i }
+
+abbrev pub next_place : Reached → Place
+next_place x = record { path = x.path; rank = x.rank + 1; leaf = x.leaf; from = x.page; way = More }
+
+-- a row was begun and not placed, and has this path
+pub record IsToPlace (k : Shape) (a : Account) (path : List ℕ) (r : Row) : Type 0 where
+  pub begun : In r a.tree.begun
+  pub fresh : HasRow (entry_word r) a.tree.placed → ⊥
+  pub below : IsBelow path (own_codes k a r)
+
+-- a row that was begun has this code after the path, and no page of the chain that was reached shows the code
+pub record IsToClaim (k : Shape) (a : Account) (path : List ℕ) (c : ℕ) : Type 0 where
+  pub some_c : c ≢ 0
+  pub row : Row
+  pub begun : In row a.tree.begun
+  pub below : IsBelow (path ++ c ∷ []) (own_codes k a row)
+  pub absent : (y : Reached) → IsMate a.tree.reached path false y → In c y.slots → ⊥

@@ -1,5 +1,5 @@
 -- When a caller may take each kind of step, and what the step tells it: of the seat before, the number found, and the seat after.
-use Rattle.std.specs.Prelude.{◌≡◌, ◌≢◌, ◌↔◌, ℕ, ◌<◌, ◌≤◌, ◌^◌, ◌⊎◌, List, [], Some, None, length, ◌++◌, ◌∷◌, ◌+◌, ◌-◌}
+use Rattle.std.specs.Prelude.{◌≡◌, ◌≢◌, ◌↔◌, ℕ, ◌<◌, ◌≤◌, ◌^◌, ◌⊎◌, List, [], Some, None, length, ◌++◌, ◌∷◌, ◌+◌, ◌-◌, ◌*◌, Bool, true, false}
 use Rattle.atomic_table.specs.Table.{Me, Step}
 use Rattle.htss_defs.specs.declared.shape.Shape.{Shape}
 use Rattle.htss_defs.specs.declared.history.Event.{Event}
@@ -10,7 +10,7 @@ use Rattle.board_core.specs.declared.account.Who.TheVariants.{Loader}
 use Rattle.board_core.specs.declared.log.Holding.TheVariants.{Away, Fronted}
 use Rattle.board_core.specs.declared.log.Ending.{Ending}
 use Rattle.board_core.specs.declared.entry.Entry.{Entry}
-use Rattle.board_core.specs.Each.{Each}
+use Rattle.board_core.specs.Each.{Each, In}
 use Rattle.board_core.specs.Words.{Parts, total_of}
 use Rattle.board_core.specs.Blocks.{shown_at, ended_at, block_size}
 use Rattle.board_core.specs.Records.{IsRecord}
@@ -21,14 +21,21 @@ use Rattle.board_core.specs.declared.room.Sealed.{Sealed}
 use Rattle.board_core.specs.declared.room.Row.{Row}
 use Rattle.board_core.specs.RoomRule.{own_block, region_of, store_of, IsSealed, SealedFits}
 use Rattle.board_core.specs.MarkRule.{IsAmong, AreListed}
-use Rattle.board_core.specs.Loaded.{HasLoaded, SawMark, IsOpenMark, IsInTable, IsPage, HasEpoch, HasState, HasParted, HasOwn}
+use Rattle.board_core.specs.Loaded.{HasLoaded, SawMark, IsOpenMark, IsInTable, IsPage, HasEpoch, HasState, HasParted, HasOwn, IsVisit, HasStored, one_word, leaf_place, next_place, IsToPlace, IsToClaim}
+use Rattle.board_core.specs.declared.tree.Link.TheVariants.{Unread}
+use Rattle.board_core.specs.ClassTree.{chained, page_room, header_of}
+use Rattle.board_core.specs.KnownPages.{place_of}
+use Rattle.board_core.specs.Rows.{entry_word, code_of, words_of, IsOwnRow, HasRow}
+use mathlib.Core.Option.{some}
+use lib.ListN.{get_elem?}
 use Rattle.board_core.specs.LoadRule.{LoadFits}
 use Rattle.board_core.specs.FactRule.{BlocksStand}
 use Rattle.board_core.specs.Sheets.{owns}
 use Rattle.board_core.specs.StateRule.{StatesStand}
+use Rattle.board_core.specs.ChainRule.{IsToldChain}
 use Rattle.board_core.specs.EpochRule.{IsPast, last_epoch}
 use Rattle.board_core.specs.LogWord.{kind_in, publication_word, target_in, withdrawal_word}
-use Rattle.board_core.specs.After.{after_epoch, after_advance, after_pin, after_unpin, after_pass, after_state, after_lost, after_page, after_retire, after_code, after_fact, after_head, after_mark, after_word, noted, after_take, after_free, after_answer, after_front, after_shows, after_ends, after_logged, after_event, after_shown}
+use Rattle.board_core.specs.After.{visited, after_begun, after_linked, after_inner, after_entry, after_own, after_slot, after_link, after_more, after_epoch, after_advance, after_pin, after_unpin, after_pass, after_state, after_lost, after_page, after_retire, after_code, after_fact, after_head, after_mark, after_word, noted, after_take, after_free, after_answer, after_front, after_shows, after_ends, after_logged, after_event, after_shown}
 
 abbrev pub Mine : Type 0
 Mine = Me (Unit {0}) View
@@ -121,13 +128,13 @@ pub record MayPass (k : Shape) (a : Account) (i : ℕ) : Type 0 where
   pub here : a.pool.passed ≡ i
   pub inside : i < k.loaders + k.searchers
 
--- a page whose state is this word may be taken: it is free, or its state was loaded as retired below the least epoch of a scan that
--- has passed all callers
+-- a page whose state was loaded as this word may be taken: it was free, or retired below the least epoch of a scan that has passed all
+-- callers
 pub record MayTakePage (k : Shape) (a : Account) (loader p x : ℕ) : Type 0 where
   pub who : a.who ≡ Loader loader
   pub inside : IsPage k p
   pub other : x ≢ 1
-  pub seen : x ≢ 0 → HasState a p x
+  pub seen : HasState a p x
   pub below : x ≢ 0 → x ≤ a.pool.low
   pub scanned : x ≢ 0 → k.loaders + k.searchers ≤ a.pool.passed
 
@@ -135,6 +142,111 @@ pub record MayTakePage (k : Shape) (a : Account) (loader p x : ℕ) : Type 0 whe
 pub record MayRetire (k : Shape) (a : Account) (p n : ℕ) : Type 0 where
   pub inside : IsPage k p
   pub kind : HasParted a p n ⊎ (HasOwn a p × HasEpoch a n)
+
+-- a code of an own row may be loaded
+pub record MayLoadOwn (k : Shape) (a : Account) (row : Row) (head code : ℕ) : Type 0 where
+  pub row_is : IsOwnRow k a row
+  pub head_is : words_of k a.who a.room.used row.block 0 ≡ head
+  pub code_is : code < 5
+
+-- word i of an own page may be stored: the words before it were
+pub record MayStoreOwn (k : Shape) (a : Account) (p i : ℕ) : Type 0 where
+  pub inside : IsPage k p
+  pub small : i < 16
+  pub own : HasOwn a p
+  pub before : Each (λ o. o.page ≡ p → i ≤ length o.words) a.pool.own
+
+-- the next code or entry of a page may be loaded
+pub record MayLoadSlot (k : Shape) (a : Account) (j : ℕ) : Type 0 where
+  pub visit : IsVisit k a j
+  pub unread : (visited a.tree.reached j).more ≡ Unread
+  pub room : length (visited a.tree.reached j).slots < page_room (visited a.tree.reached j).leaf
+
+-- the link of a code that was loaded
+pub record MayLoadLink (k : Shape) (a : Account) (j i c : ℕ) : Type 0 where
+  pub visit : IsVisit k a j
+  pub pinned : 0 < a.pool.announced
+  pub inner : (visited a.tree.reached j).leaf ≡ false
+  pub code : get_elem? (visited a.tree.reached j).slots i ≡ some c
+  pub not_zero : (visited a.tree.reached j).zero ≡ false
+  pub unread : (visited a.tree.reached j).more ≡ Unread
+
+-- the next page of one that was read whole
+pub record MayLoadMore (k : Shape) (a : Account) (j : ℕ) : Type 0 where
+  pub visit : IsVisit k a j
+  pub pinned : 0 < a.pool.announced
+  pub full : length (visited a.tree.reached j).slots ≡ page_room (visited a.tree.reached j).leaf
+  pub not_zero : (visited a.tree.reached j).zero ≡ false
+
+-- a link that is 0 may be exchanged for a leaf that has a row
+pub record MayLinkLeaf (k : Shape) (a : Account) (j i c n : ℕ) (r : Row) : Type 0 where
+  pub load : MayLoadLink k a j i c
+  pub new : HasStored a n (one_word (header_of (leaf_place (visited a.tree.reached j) i c)) (entry_word r))
+  pub row : IsToPlace k a ((visited a.tree.reached j).path ++ c ∷ []) r
+
+-- the next code word of a page, of which all codes before it were loaded, may be exchanged for a code
+pub record MayClaimCode (k : Shape) (a : Account) (j c : ℕ) : Type 0 where
+  pub visit : IsVisit k a j
+  pub inner : (visited a.tree.reached j).leaf ≡ false
+  pub unread : (visited a.tree.reached j).more ≡ Unread
+  pub room : length (visited a.tree.reached j).slots < 7
+  pub claim : IsToClaim k a (visited a.tree.reached j).path c
+
+-- the next entry for a row
+pub record MayClaimEntry (k : Shape) (a : Account) (j : ℕ) (r : Row) : Type 0 where
+  pub visit : IsVisit k a j
+  pub leaf : (visited a.tree.reached j).leaf ≡ true
+  pub unread : (visited a.tree.reached j).more ≡ Unread
+  pub room : length (visited a.tree.reached j).slots < 14
+  pub row : IsToPlace k a (visited a.tree.reached j).path r
+
+-- the next page of a full one may be linked
+pub record MayLinkNext (k : Shape) (a : Account) (j n word : ℕ) : Type 0 where
+  pub load : MayLoadMore k a j
+  pub rank : (visited a.tree.reached j).rank + 1 < k.chain
+  pub new : HasStored a n (one_word (header_of (next_place (visited a.tree.reached j))) word)
+
+-- a leaf that has a row, and an inner page that has a code
+pub record MayLinkMoreLeaf (k : Shape) (a : Account) (j n : ℕ) (r : Row) : Type 0 where
+  pub may : MayLinkNext k a j n (entry_word r)
+  pub leaf : (visited a.tree.reached j).leaf ≡ true
+  pub deep : chained ≤ length (visited a.tree.reached j).path
+  pub row : IsToPlace k a (visited a.tree.reached j).path r
+
+pub record MayLinkInner (k : Shape) (a : Account) (j n c : ℕ) : Type 0 where
+  pub may : MayLinkNext k a j n c
+  pub inner : (visited a.tree.reached j).leaf ≡ false
+  pub claim : IsToClaim k a (visited a.tree.reached j).path c
+
+-- an exchange of a page word that is 0: a link for a leaf that has a row, an entry for a row, a code word for a code, the next page for
+-- a leaf that has a row, and for an inner page that has a code. Pages that were reached go by their numbers
+pub data Claim : Type 0 where
+  LeafBelow : ℕ → ℕ → ℕ → ℕ → Row → Claim
+  EntryOf : ℕ → Row → Claim
+  CodeOf : ℕ → ℕ → Claim
+  LeafBehind : ℕ → ℕ → Row → Claim
+  InnerBehind : ℕ → ℕ → ℕ → Claim
+
+-- the word at this place of a page that was reached is to be exchanged for n
+pub record IsClaimAt (a : Account) (j at n page place word : ℕ) : Type 0 where
+  pub page_is : page ≡ (visited a.tree.reached j).page
+  pub place_is : place ≡ at
+  pub word_is : word ≡ n
+
+abbrev pub MayClaim : Shape → Account → ℕ → ℕ → ℕ → Claim → Type 0
+MayClaim k a page place word (LeafBelow j i c n row) = MayLinkLeaf k a j i c n row × (i < 7) × IsClaimAt a j (3 + 2 * i) n page place word
+MayClaim k a page place word (EntryOf j row) = MayClaimEntry k a j row × IsClaimAt a j (2 + length (visited a.tree.reached j).slots) (entry_word row) page place word
+MayClaim k a page place word (CodeOf j c) = MayClaimCode k a j c × IsClaimAt a j (2 + 2 * length (visited a.tree.reached j).slots) c page place word
+MayClaim k a page place word (LeafBehind j n row) = MayLinkMoreLeaf k a j n row × IsClaimAt a j 1 n page place word
+MayClaim k a page place word (InnerBehind j n c) = MayLinkInner k a j n c × IsClaimAt a j 1 n page place word
+
+-- the account after an exchange that is won: an inner page that it links, and a code, are known as if they had been loaded
+abbrev pub after_claim : Account → Claim → Account
+after_claim a (LeafBelow j i c n row) = after_linked a n (row ∷ [])
+after_claim a (EntryOf j row) = after_entry a j row
+after_claim a (CodeOf j c) = after_slot a j c
+after_claim a (LeafBehind j n row) = after_linked a n (row ∷ [])
+after_claim a (InnerBehind j n c) = after_more (after_inner a n) j n
 
 -- ---- what is known of a board whatever its words are
 
@@ -172,6 +284,7 @@ pub record AreTrue (k : Shape) (a : Account) (es : List Entry) : Type 0 where
   pub each : (p : Parts) → Known k p → Agrees k p a → Each (IsTrueLog k (history_of k p)) es
   pub rooms : Each (IsTrueRoom (k.room - length a.room.used)) es
   pub pages : (states : ℕ → ℕ) → StatesStand states a.loads → Each (IsTruePool k states) es
+  pub chains : Each (IsToldChain k a) es
 
 -- ---- what the steps tell
 
@@ -272,3 +385,59 @@ pub record TakesPage (p : ℕ) (s : Step (Unit {0})) (m : Mine) (found : ℕ) (n
 
 abbrev pub Retires : ℕ → Step (Unit {0}) → Mine → ℕ → Mine → Type 0
 Retires p s m found n = n ≡ became m (after_retire m.0.me p)
+
+abbrev pub StoresOwn : ℕ → ℕ → Step (Unit {0}) → Mine → ℕ → Mine → Type 0
+StoresOwn p i s m found n = n ≡ became m (after_own m.0.me p i s.first)
+
+-- the header of a page that was reached is that of its place, and an inner page stands above depth 5
+pub record LoadsHeader (j : ℕ) (s : Step (Unit {0})) (m : Mine) (found : ℕ) (n : Mine) : Type 0 where
+  pub same : n ≡ m
+  pub header : found ≡ header_of (place_of (visited m.0.me.tree.reached j))
+  pub shallow : (visited m.0.me.tree.reached j).leaf ≡ false → length (visited m.0.me.tree.reached j).path < 5
+
+abbrev pub LoadsSlot : ℕ → Step (Unit {0}) → Mine → ℕ → Mine → Type 0
+LoadsSlot j s m found n = n ≡ became m (after_slot m.0.me j found)
+
+-- a link leads to a page of the table, a leaf or an inner one
+pub record LoadsLink (j i c : ℕ) (s : Step (Unit {0})) (m : Mine) (found : ℕ) (n : Mine) : Type 0 where
+  pub leaf : Bool
+  pub after : n ≡ became m (after_link m.0.me j i c found leaf)
+  pub page : found ≢ 0 → IsPage m.0.shape found
+
+-- the next page, of a rank that is in the shape
+pub record LoadsMore (j : ℕ) (s : Step (Unit {0})) (m : Mine) (found : ℕ) (n : Mine) : Type 0 where
+  pub after : n ≡ became m (after_more m.0.me j found)
+  pub page : found ≢ 0 → IsPage m.0.shape found
+  pub rank : found ≢ 0 → (visited m.0.me.tree.reached j).rank + 1 < m.0.shape.chain
+
+-- a word that was 0 is the caller's now, or it was another, which was then loaded
+pub record Claims (after : Account) (Loads : Step (Unit {0}) → Mine → ℕ → Mine → Type 0) (s : Step (Unit {0})) (m : Mine) (found : ℕ) (n : Mine) : Type 0 where
+  pub won : found ≡ 0 → n ≡ became m after
+  pub lost : found ≢ 0 → Loads s m found n
+
+abbrev pub LoadsInstead : Claim → Step (Unit {0}) → Mine → ℕ → Mine → Type 0
+LoadsInstead (LeafBelow j i c n row) = LoadsLink j i c
+LoadsInstead (EntryOf j row) = LoadsSlot j
+LoadsInstead (CodeOf j c) = LoadsSlot j
+LoadsInstead (LeafBehind j n row) = LoadsMore j
+LoadsInstead (InnerBehind j n c) = LoadsMore j
+
+abbrev pub ClaimsWord : Claim → Step (Unit {0}) → Mine → ℕ → Mine → Type 0
+ClaimsWord claim s m found n = Claims (after_claim m.0.me claim) (LoadsInstead claim) s m found n
+
+-- a code of an own row was loaded: it is the one that was stored
+pub record LoadsOwnCode (row : Row) (code : ℕ) (s : Step (Unit {0})) (m : Mine) (found : ℕ) (n : Mine) : Type 0 where
+  pub after : n ≡ became m (after_code m.0.me row code found)
+  pub stored_is : found ≡ code_of (words_of m.0.shape m.0.me.who m.0.me.room.used row.block) row.atom code
+
+-- and the row is begun. Of the rows that were placed, its entry word names it alone
+pub record BeginsRow (row : Row) (code : ℕ) (s : Step (Unit {0})) (m : Mine) (found : ℕ) (n : Mine) : Type 0 where
+  pub after : n ≡ became m (after_begun (after_code m.0.me row code found) row)
+  pub stored_is : found ≡ code_of (words_of m.0.shape m.0.me.who m.0.me.room.used row.block) row.atom code
+  pub alone : HasRow (entry_word row) m.0.me.tree.placed → In row m.0.me.tree.placed
+
+-- the first word of an own block was loaded: it is the one that was stored, and all of the block is in the table
+pub record LoadsOwnHead (block : ℕ) (s : Step (Unit {0})) (m : Mine) (found : ℕ) (n : Mine) : Type 0 where
+  pub same : n ≡ m
+  pub stored_is : found ≡ words_of m.0.shape m.0.me.who m.0.me.room.used block 0
+  pub until : block + block_size found ≤ total_of m.0.shape

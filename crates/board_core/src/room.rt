@@ -2,6 +2,7 @@
 use std::collections::LinkedList;
 
 /// An atom of a block: the table's place of the block, and the place of the atom, from 1.
+#[derive(Clone, Copy)]
 pub struct Row {
     pub block: u64,
     pub atom: u16,

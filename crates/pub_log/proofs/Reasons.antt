@@ -17,6 +17,7 @@ use Rattle.board_core.proofs.BlockCauses.{past_unknown, withdrawal_unknown, ende
 use Rattle.board.specs.Seated.{Seated, with_account}
 use Rattle.pub_log.specs.Locking.{IsHeld, IsToldBy, IsKnownOpen}
 use Rattle.pub_log.proofs.Calls.{HasRead, read_word, read_mark, read_both, still_held}
+use Rattle.board_core.specs.ChainRule.{IsToldChain}
 
 -- the log is full
 pub full_true : (k : Shape) (a : Account) → a.log.seen ≡ k.log → AreTrue k a (LogFull a.log.seen ∷ [])
@@ -25,6 +26,7 @@ full_true k a full = record {
   each = λ p known agrees. each_cons (IsTrueLog k (history_of k p)) (LogFull a.log.seen) [] (seen_within k p a (record { known = known; agrees = agrees }) a.log.seen (omega arith), full) (each_none (IsTrueLog k (history_of k p)));
   rooms = each_cons (IsTrueRoom (k.room - length a.room.used)) (LogFull a.log.seen) [] tt (each_none (IsTrueRoom (k.room - length a.room.used)));
   pages = λ states _. each_cons (IsTruePool k states) (LogFull a.log.seen) [] tt (each_none (IsTruePool k states));
+  chains = each_cons (IsToldChain k a) (LogFull a.log.seen) [] tt (each_none (IsToldChain k a));
 }
 
 -- ---- the number, and the front as the lock tells it

@@ -22,6 +22,7 @@ use Rattle.board_core.proofs.BlockCauses.{seen_within}
 use Rattle.searcher.specs.Searched.{IsSearched}
 use Rattle.searcher.specs.Walking.{Reads, Replies, Whatever}
 use Rattle.searcher.proofs.Walks.{whatever_later}
+use Rattle.board_core.specs.ChainRule.{IsToldChain}
 
 -- a reply that is the board's, whatever it is, is a true entry
 pub answered_true : (k : Shape) (a : Account) (query : QueryGraph) (budget front : ℕ) (reply : Reply) → Replies k a query budget front (reply_of reply) → AreTrue k a (Answered query budget front reply ∷ [])
@@ -30,6 +31,7 @@ answered_true k a query budget front reply r = let e : Entry = Answered query bu
   each = λ p known agrees. let m : MayBe k p a = record { known = known; agrees = agrees } in each_cons (IsTrueLog k (history_of k p)) e [] (seen_within k p a m front r.seen, r.is p m) (each_none (IsTrueLog k (history_of k p)));
   rooms = each_cons (IsTrueRoom (k.room - length a.room.used)) e [] tt (each_none (IsTrueRoom (k.room - length a.room.used)));
   pages = λ states _. each_cons (IsTruePool k states) e [] tt (each_none (IsTruePool k states));
+  chains = each_cons (IsToldChain k a) e [] tt (each_none (IsToldChain k a));
 }
 
 -- the front was loaded, then words, and then the entries were added
