@@ -38,5 +38,6 @@ pub mod TreeRule
 pub mod ChainRule
 pub mod After
 pub mod Loaded
+pub mod Answers
 pub mod Holds
 pub mod Steps

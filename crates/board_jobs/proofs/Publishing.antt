@@ -14,6 +14,7 @@ use Rattle.board_core.specs.declared.entry.Entry.{Entry}
 use Rattle.board_core.specs.declared.entry.Entry.TheVariants.{Published, DataFull, LogFull}
 use Rattle.board_core.specs.Blocks.{first_of}
 use Rattle.board_core.specs.Loaded.{Grows}
+use Rattle.board_core.specs.Answers.{answers_in}
 use Rattle.board_core.specs.After.{noted, after_answer, after_front, after_take, after_free}
 use Rattle.board_core.proofs.Grown.{grows_trans, grows_quiet, grows_front}
 use Rattle.board_core.proofs.Shown.{length_first}
@@ -26,7 +27,7 @@ use Rattle.loader.specs.declared.stages.StageError.TheVariants as stage
 use Rattle.loader.specs.Stages.{left_in, after_stage, staging, IsFull, refusal}
 use Rattle.pub_log.specs.Locking.{after_publication}
 use Rattle.pub_log.proofs.Staged.{staged_stays}
-use Rattle.board_jobs.specs.Telling.{entries_in}
+use Rattle.board_jobs.specs.Answering.{HasRoomFor}
 use Rattle.board_jobs.specs.Calls.{Answers, GoesOn, IsAtWork, IsTaken, room_line}
 use Rattle.board_jobs.proofs.Chained.{number_same, all_one, all_none, told_one, goes_on-after}
 
@@ -63,7 +64,7 @@ room-answers : (k : Shape) (a : Account) (one : NamedMol) (left need : ℕ) → 
 room-answers k a one left need room left_is need_is less c who =
     let b = after_answer a (DataFull left need ∷ []) in record {
       who = refl;
-      entries = told_one a b (DataFull left need) a refl;
+      noted_are = told_one a b (DataFull left need) refl refl;
       seen = omega arith;
       marks = all_none _;
       fresh = all_none _;
@@ -89,29 +90,37 @@ on-no_room b c d place name mol e work full is =
     goes_on-after b c d (after_answer c.account (refusal e ∷ [])) (to_record (taken (record { name = name; mol = mol }) took.fate)) is work
     (record { holding = work.ready.free; pool = refl; who = refl; room = work.room }) took.answers
 
+-- ---- a record that was staged had room
+
+has_room : (k : Shape) (a : Account) (s : Staging) → length a.room.used + size_of s.name s.mol ≤ k.room → HasRoomFor k (length a.room.used) (record { name = s.name; mol = s.mol })
+has_room k a s room = let same = block_size (record { name = s.name; mol = s.mol }) in omega (arith, same, room)
+
+had_room : (k : Shape) (a : Account) (name : List ℕ) (mol : Molecule) (s : Staging) → s ≡ staging k a name mol → length a.room.used + size_of name mol ≤ k.room → length a.room.used + size_of s.name s.mol ≤ k.room
+had_room k a name mol s staged room = let size : size_of s.name s.mol ≡ size_of name mol = ap (λ (z : Staging). size_of z.name z.mol) staged in omega (arith, size, room)
+
 -- ---- the log is full
 
-full-answers : (k : Shape) (a : Account) (s : Staging) (front : ℕ) → a.log.seen ≤ front → front ≡ k.log
+full-answers : (k : Shape) (a : Account) (s : Staging) (front : ℕ) → a.log.seen ≤ front → front ≡ k.log → length a.room.used + size_of s.name s.mol ≤ k.room
     → Answers k a (after_free (under_lock a s front) (LogFull front ∷ [])) (to_record (taken (record { name = s.name; mol = s.mol }) (log_full front)))
-full-answers k a s front later full c who =
+full-answers k a s front later full room c who =
     let b = after_free (under_lock a s front) (LogFull front ∷ []) in
     let one : NamedMol = record { name = s.name; mol = s.mol } in record {
       who = refl;
-      entries = told_one a b (LogFull front) (under_lock a s front) refl;
+      noted_are = told_one a b (LogFull front) refl refl;
       seen = later;
       marks = all_one (λ mark. mark ≤ front) front (omega arith);
       fresh = all_none _;
       fronts = all_one (λ mark. a.log.seen ≤ mark) front later;
       used = used_staged a s ∙ ap (λ n. length a.room.used + n) (block_size one);
-      says = full;
+      says = (full, has_room k a s room);
       grows = grows_trans a (under_lock a s front) b (grows_locked a s front later) (grows_quiet (under_lock a s front) b (omega arith) refl);
     }
 
 pub taken-full : (b : Place) (c d : Seated) (place : ℕ) (name : List ℕ) (mol : Molecule) (s : Staging) (front told : ℕ)
-    → s ≡ staging b.shape c.account name mol → told ≡ front → front ≡ b.shape.log → c.account.log.seen ≤ front
+    → s ≡ staging b.shape c.account name mol → told ≡ front → front ≡ b.shape.log → c.account.log.seen ≤ front → length c.account.room.used + size_of name mol ≤ b.shape.room
     → d ≡ with_account c (after_free (under_lock c.account s front) (LogFull front ∷ []))
     → IsTaken b.shape c.account d.account place (record { name = name; mol = mol }) (line.LogFull place told)
-taken-full b c d place name mol s front told staged at full later is =
+taken-full b c d place name mol s front told staged at full later room is =
     let k = b.shape in
     let a = c.account in
     let after = after_free (under_lock a s front) (LogFull front ∷ []) in
@@ -122,34 +131,34 @@ taken-full b c d place name mol s front told staged at full later is =
           subst (λ (x : Seated). Answers k a x.account (to_record (taken one (log_full told)))) (sym is)
           (subst (λ (t : ℕ). Answers k a after (to_record (taken one (log_full t)))) (sym at)
           (subst (λ (z : Staging). Answers k a after (to_record (taken (record { name = z.name; mol = z.mol }) (log_full front)))) staged
-          (full-answers k a s front later full)));
+          (full-answers k a s front later full (had_room k a name mol s staged room))));
     }
 
 -- ---- it is published
 
-published-answers : (k : Shape) (a : Account) (s : Staging) (front : ℕ) → a.log.seen ≤ front
+published-answers : (k : Shape) (a : Account) (s : Staging) (front : ℕ) → a.log.seen ≤ front → length a.room.used + size_of s.name s.mol ≤ k.room
     → Answers k a (after_publication (under_lock a s front) (number_in a.who) s) (to_record (taken (record { name = s.name; mol = s.mol }) (published (front + 1))))
-published-answers k a s front later c who =
+published-answers k a s front later room c who =
     let b = after_publication (under_lock a s front) (number_in a.who) s in
     let one : NamedMol = record { name = s.name; mol = s.mol } in
     let told : Entry = Published (front + 1) (Publish (number_in a.who) s.name s.mol) in record {
       who = refl;
-      entries = told_one a b told (under_lock a s front) (append-nil (a.entries ++ noted (under_lock a s front).loads (told ∷ [])))
-          ∙ ap (λ n. entries_in a ++ Published (front + 1) (Publish n s.name s.mol) ∷ []) (number_same c a.who who);
+      noted_are = told_one a b told refl (append-nil (a.entries ++ noted b.loads (told ∷ [])))
+          ∙ ap (λ n. answers_in a.entries ++ noted b.loads (Published (front + 1) (Publish n s.name s.mol) ∷ [])) (number_same c a.who who);
       seen = omega (arith, later);
       marks = all_one (λ mark. mark ≤ front + 1) (front + 1) (omega arith);
       fresh = all_one (λ number. a.log.seen < number) (front + 1) (omega (arith, later));
       fronts = all_none _;
       used = used_staged a s ∙ ap (λ n. length a.room.used + n) (block_size one);
-      says = tt;
+      says = has_room k a s room;
       grows = grows_trans a (under_lock a s front) b (grows_locked a s front later) (grows_quiet (under_lock a s front) b (omega arith) refl);
     }
 
 pub taken-published : (b : Place) (c d : Seated) (place : ℕ) (name : List ℕ) (mol : Molecule) (s : Staging) (front number : ℕ)
-    → s ≡ staging b.shape c.account name mol → number ≡ front + 1 → c.account.log.seen ≤ front
+    → s ≡ staging b.shape c.account name mol → number ≡ front + 1 → c.account.log.seen ≤ front → length c.account.room.used + size_of name mol ≤ b.shape.room
     → d ≡ with_account c (after_publication (under_lock c.account s front) (number_in c.account.who) s)
     → IsTaken b.shape c.account d.account place (record { name = name; mol = mol }) (line.Published number name)
-taken-published b c d place name mol s front number staged next later is =
+taken-published b c d place name mol s front number staged next later room is =
     let k = b.shape in
     let a = c.account in
     let after = after_publication (under_lock a s front) (number_in a.who) s in
@@ -160,7 +169,7 @@ taken-published b c d place name mol s front number staged next later is =
           subst (λ (x : Seated). Answers k a x.account (to_record (taken one (published number)))) (sym is)
           (subst (λ (t : ℕ). Answers k a after (to_record (taken one (published t)))) (sym next)
           (subst (λ (z : Staging). Answers k a after (to_record (taken (record { name = z.name; mol = z.mol }) (published (front + 1))))) staged
-          (published-answers k a s front later)));
+          (published-answers k a s front later (had_room k a name mol s staged room))));
     }
 
 -- ---- the caller goes on
@@ -176,7 +185,7 @@ pub on-full : (b : Place) (c d : Seated) (place : ℕ) (name : List ℕ) (mol : 
     → d ≡ with_account c (after_free (under_lock c.account s front) (LogFull front ∷ []))
     → GoesOn b c d
 on-full b c d place name mol s front told work staged at full later room is =
-    let took = taken-full b c d place name mol s front told staged at full later is in
+    let took = taken-full b c d place name mol s front told staged at full later room is in
     goes_on-after b c d (after_free (under_lock c.account s front) (LogFull front ∷ [])) (to_record (taken (record { name = name; mol = mol }) took.fate)) is work
     (record { holding = refl; pool = refl; who = refl; room = room_staged b c.account name mol s staged room }) took.answers
 
@@ -185,7 +194,7 @@ pub on-published : (b : Place) (c d : Seated) (place : ℕ) (name : List ℕ) (m
     → d ≡ with_account c (after_publication (under_lock c.account s front) (number_in c.account.who) s)
     → GoesOn b c d
 on-published b c d place name mol s front number work staged next later room is =
-    let took = taken-published b c d place name mol s front number staged next later is in
+    let took = taken-published b c d place name mol s front number staged next later room is in
     goes_on-after b c d (after_publication (under_lock c.account s front) (number_in c.account.who) s) (to_record (taken (record { name = name; mol = mol }) took.fate)) is work
     (record { holding = refl; pool = refl; who = refl; room = room_staged b c.account name mol s staged room }) took.answers
 

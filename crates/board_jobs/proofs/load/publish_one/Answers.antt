@@ -8,7 +8,7 @@ pub returns-in-Ok-publish-clause-taken : goal.returns-in-Ok-publish-clause-taken
 returns-in-Ok-publish-clause-taken g c =
     let told = c.in-Ok-publish.ensures.ok in
     let locked = locked_is c.args.caller.now _ _ c.in-Ok.staged _ c.in-Ok.ensures.account c.lock-locked.ensures.account in
-    taken-published c.args.board.now c.args.caller.now _ _ _ _ c.in-Ok.staged _ _ c.in-Ok.ensures.staged told.0 (seen_before c.args.caller.now _ c.in-Ok.staged _ c.in-Ok.ensures.account c.lock-locked.ensures.later)
+    taken-published c.args.board.now c.args.caller.now _ _ _ _ c.in-Ok.staged _ _ c.in-Ok.ensures.staged told.0 (seen_before c.args.caller.now _ c.in-Ok.staged _ c.in-Ok.ensures.account c.lock-locked.ensures.later) c.in-Ok.ensures.room
     (publication_is c.args.caller.now _ _ c.in-Ok.staged _ locked told.2)
 
 pub returns-in-Ok-publish-clause-goes_on : goal.returns-in-Ok-publish-clause-goes_on
@@ -22,7 +22,7 @@ pub returns-in-Ok-clause-taken : goal.returns-in-Ok-clause-taken
 returns-in-Ok-clause-taken g c =
     let told = c.in-Err-publish.ensures.full in
     let locked = locked_is c.args.caller.now _ _ c.in-Ok.staged _ c.in-Ok.ensures.account c.lock-locked.ensures.account in
-    taken-full c.args.board.now c.args.caller.now _ _ _ _ c.in-Ok.staged _ _ c.in-Ok.ensures.staged told.0 told.1 (seen_before c.args.caller.now _ c.in-Ok.staged _ c.in-Ok.ensures.account c.lock-locked.ensures.later)
+    taken-full c.args.board.now c.args.caller.now _ _ _ _ c.in-Ok.staged _ _ c.in-Ok.ensures.staged told.0 told.1 (seen_before c.args.caller.now _ c.in-Ok.staged _ c.in-Ok.ensures.account c.lock-locked.ensures.later) c.in-Ok.ensures.room
     (freed_is c.args.caller.now _ _ c.in-Ok.staged _ locked told.3)
 
 pub returns-in-Ok-clause-goes_on : goal.returns-in-Ok-clause-goes_on
