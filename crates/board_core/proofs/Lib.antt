@@ -90,3 +90,4 @@ pub mod SplitCaller
 pub mod JoinNote
 pub mod JoinCaller
 pub mod Opened
+mod CodeSome

@@ -7,7 +7,6 @@ use native.Mathlib.Decide.{ℕ_discrete}
 use prog.Atomic.{either}
 use lib.ListN.{get_elem?}
 use Rattle.atomic_table.specs.Table.{Step, step, keeps, stepped, Allows}
-use Rattle.atomic_table.proofs.Lists.{set_again}
 use Rattle.htss_defs.specs.declared.shape.Shape.{Shape}
 use Rattle.htss_defs.specs.declared.history.Event.{Event}
 use Rattle.board_core.specs.declared.account.Account.{Account}
@@ -35,7 +34,7 @@ use Rattle.board_core.proofs.FactFrame.{facts_same}
 use Rattle.board_core.proofs.EmptyFrame.{empty_same}
 use Rattle.board_core.proofs.Stored.{part_at}
 use Rattle.board_core.proofs.Changed.{set_page}
-use Rattle.board_core.proofs.Stepped.{St, still, words_moved}
+use Rattle.board_core.proofs.Stepped.{St, words_moved}
 use Rattle.board_core.proofs.Pooled.{LeavesLog}
 use Rattle.board_core.specs.declared.room.RoomAccount.{RoomAccount}
 use Rattle.board_core.specs.Sheets.{sheet_of}
