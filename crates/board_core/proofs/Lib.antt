@@ -27,6 +27,7 @@ pub mod RecordFrame
 pub mod FactFrame
 pub mod RowFrame
 pub mod Walk
+pub mod RowWalk
 pub mod Seen
 pub mod KnownSteps
 pub mod Graft

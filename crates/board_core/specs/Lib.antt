@@ -33,6 +33,7 @@ pub mod Fill
 pub mod Hang
 pub mod NextPage
 pub mod Rows
+pub mod RowWalk
 pub mod KnownRule
 pub mod TreeRule
 pub mod ChainRule
