@@ -26,14 +26,15 @@ pub fn load_epoch(board: &Board, caller: &mut Caller) -> u64
     board.table.shared.load::<LoadEpoch>(&mut caller.seat, 2)
 }
 
-/// Exchanges an epoch that was loaded for the next. Whether it was still the epoch or not, the next has then come.
-pub fn advance_epoch(board: &Board, caller: &mut Caller, epoch: u64) -> bool
+/// Exchanges an epoch that was loaded for the next. Whether it was still the epoch or not, the next has then come, so nothing is
+/// answered.
+pub fn advance_epoch(board: &Board, caller: &mut Caller, epoch: u64)
     requires fits { IsOf board.now caller.old }
     requires may { MayAdvance caller.old.account epoch }
     ensures { caller.new ≡ with_account caller.old (after_advance caller.old.account epoch) }
 {
     let shared = &board.table.shared;
-    shared.compare_exchange::<AdvanceEpoch>(&mut caller.seat, 2, epoch, epoch + 1) == epoch
+    shared.compare_exchange::<AdvanceEpoch>(&mut caller.seat, 2, epoch, epoch + 1);
 }
 
 /// Announces an epoch that was loaded. The caller has then reached the root.

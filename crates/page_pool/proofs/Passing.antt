@@ -91,7 +91,7 @@ lower_either : (low n : ℕ) → (lower low n ≤ low) × ((n ≢ 0) → lower l
 lower_either low n = dite (ℕ_discrete n 0)
     (λ z. let e : lower low n ≡ low = ap (λ b. cond b low (min low n)) (eq-eqb n 0 z) in (omega arith, λ some_n. absurd (some_n z), inl e))
     (λ z. let e : lower low n ≡ min low n = ap (λ b. cond b low (min low n)) (ne_eqb n 0 z) in
-      (omega arith, λ _. omega arith, dite (ℕ_discrete (low - n) 0) (λ (less : low - n ≡ 0). inl (omega arith)) (λ (more : low - n ≢ 0). inr (omega arith))))
+    (omega arith, λ _. omega arith, dite (ℕ_discrete (low - n) 0) (λ (less : low - n ≡ 0). inl (omega arith)) (λ (more : low - n ≢ 0). inr (omega arith))))
 
 passed_least : (a : Account) (ns : List ℕ) → IsLeast (all_passed a ns).pool.low a.pool.low ns
 passed_least a [] = record { most = omega arith; below = λ i n there. absurd (some-ne-none n (sym there)); one = inl refl }

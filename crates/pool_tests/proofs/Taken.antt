@@ -1,23 +1,19 @@
 -- What a loader that keeps no page has after it took one, or gave one back.
-use Rattle.std.proofs.Common.{◌≡◌, ◌≢◌, ℕ, ◌+◌, ◌<◌, ◌≤◌, List, [], ◌∷◌, ◌++◌, length, refl, sym, ap, ◌∙◌, subst, arith, ⊎_elim, ◌⊎◌, length-append}
-use mathlib.Core.Option.{some, some-ne-none}
+use Rattle.std.proofs.Common.{◌≡◌, ℕ, ◌<◌, List, [], ◌∷◌, ◌++◌, length, sym, ap, ◌∙◌, subst, arith, ⊎_elim, length-append}
+use mathlib.Core.Option.{some-ne-none}
 use mathlib.Core.Logic.{dite}
 use native.Mathlib.Decide.{ℕ_discrete}
 use lib.ListN.{get_elem?}
 use Rattle.htss_defs.specs.declared.shape.Shape.{Shape}
-use Rattle.board_core.specs.declared.account.Account.{Account}
-use Rattle.board_core.specs.declared.account.Who.{Who}
-use Rattle.board_core.specs.declared.account.Who.TheVariants.{Loader}
 use Rattle.board_core.specs.declared.pool.Own.{Own}
 use Rattle.board_core.specs.MarkRule.{IsAmong}
 use Rattle.board_core.specs.Sheets.{owns}
 use Rattle.board_core.specs.Loaded.{HasOwn, IsPage}
-use Rattle.board.specs.Seated.{Place, Seated, IsOf, IsLoader, number_in, with_account, with_stock}
-use Rattle.page_pool.specs.Taking.{HasFound, IsGiven, IsRefused, IsRetired}
+use Rattle.board.specs.Seated.{Seated, with_stock}
+use Rattle.page_pool.specs.Taking.{HasFound, IsGiven, IsRefused}
 use Rattle.std.specs.Prelude.{Result, Ok, Err, IfOk, IfErr}
 use Rattle.page_pool.specs.declared.takes.NoPage.{NoPage}
 use Rattle.page_pool.proofs.Giving.{found_stock}
-use Rattle.pool_tests.specs.Ready.{IsReady}
 
 pub none_among : (l : List ℕ) (p : ℕ) → l ≡ [] → ¬ (IsAmong l p)
 none_among l p e t = some-ne-none p (sym t.1 ∙ ap (λ (m : List ℕ). get_elem? m t.0) e)
