@@ -1,10 +1,9 @@
 -- A row that stands in the tree is found by its walk.
-use Rattle.std.proofs.Common.{◌≡◌, ◌≢◌, ℕ, zero, suc, ◌+◌, ◌*◌, ◌%◌, ◌<◌, ◌≤◌, inl, inr, true, false, List, [], ◌∷◌, ◌++◌, length, sym, refl, ap, ◌∙◌, subst, arith, length-append}
-use Rattle.board_core.specs.declared.tree.Way.{Way}
-use Rattle.board_core.specs.declared.tree.Way.TheVariants.{More, Branch}
+use Rattle.std.proofs.Common.{◌≡◌, ◌≢◌, ℕ, zero, suc, ◌+◌, ◌*◌, ◌%◌, inl, inr, true, false, List, [], ◌∷◌, length, sym, refl, ap, ◌∙◌, subst, arith, length-append}
+use Rattle.board_core.specs.declared.tree.Way.TheVariants.{More}
 use Rattle.board_core.specs.Sheets.{Sheet, IsLinked}
 use Rattle.board_core.specs.ClassTree.{Place, at_way, header_of, Stands, Tree}
-use Rattle.board_core.specs.RowWalk.{IsNext, IsBeside, LeadsTo, IsFound}
+use Rattle.board_core.specs.RowWalk.{LeadsTo, IsFound}
 use Rattle.board_core.proofs.Walk.{up_more, up_branch}
 
 module _ (w : ℕ → ℕ → ℕ) (s : Sheet) (m : ℕ → Place) (codes : ℕ → List ℕ) (placed : ℕ → Type 0) (t : Tree w s m codes placed) where

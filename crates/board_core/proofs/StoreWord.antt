@@ -40,6 +40,7 @@ use Rattle.board_core.proofs.RecordFrame.{records_word}
 use Rattle.board_core.proofs.FactFrame.{facts_word}
 use Rattle.board_core.proofs.RowFrame.{rows_word}
 use Rattle.board_core.proofs.ChainFrame.{chains_same}
+use Rattle.board_core.proofs.PublishedFrame.{published_word}
 
 pub store_word : (k : Shape) (p : Parts) (vs : List View) (id loader word : ℕ) (v : View) (more : List Sealed) → Rule k p (history_of k p) vs → get_elem? vs id ≡ some v → MayStore k v.me loader → Adds k v.me word more → Each (MaySeal k v.me word) more
     → Rule k (record p { regions = stored p.regions (next_at k v.me) word }) (history_of k (record p { regions = stored p.regions (next_at k v.me) word })) (set vs id (with_me v (after_word v.me word more)))
@@ -61,7 +62,9 @@ store_word k p vs id loader word v more r at may adds seals =
     (records_word k p.regions vs id word v more r.records r.rooms.rooms at seals)
     (facts_word k p.regions p.log.front p.log.slots vs id loader word v more r.facts r.seats r.rooms at may)
     (rows_word k p.regions vs id word v more r.rows r.rooms.rooms at)
-    (word_same k p.regions vs id loader word v r.seats r.rooms.rooms at may))
+    (published_word k p.regions vs id word v more r.published r.rooms.rooms r.marks.listed at)
+    (word_same k p.regions vs id loader word v r.seats r.rooms.rooms at may)
+    (not_later p.log p.log refl refl))
 
 -- the place is in the table's regions
 next_inside : (k : Shape) (a : Account) (loader : ℕ) → MayStore k a loader → WhoFits k a.who → (region_of k a.who + length a.room.used ≡ regions_at k + next_at k a) × (next_at k a < regions_size k)

@@ -36,6 +36,9 @@ pub mod Rows
 pub mod RowWalk
 pub mod KnownRule
 pub mod TreeRule
+pub mod PublishedRule
+pub mod OldRows
+pub mod PinRule
 pub mod ChainRule
 pub mod After
 pub mod Loaded

@@ -36,6 +36,7 @@ use Rattle.board_core.specs.ChainRule.{IsToldChain}
 use Rattle.board_core.specs.EpochRule.{IsPast, last_epoch}
 use Rattle.board_core.specs.LogWord.{kind_in, publication_word, target_in, withdrawal_word}
 use Rattle.board_core.specs.After.{visited, after_begun, after_linked, after_inner, after_entry, after_own, after_slot, after_link, after_more, after_epoch, after_advance, after_pin, after_unpin, after_pass, after_state, after_lost, after_page, after_retire, after_code, after_fact, after_head, after_mark, after_word, noted, after_take, after_free, after_answer, after_front, after_shows, after_ends, after_logged, after_event, after_shown}
+use Rattle.board_core.specs.PublishedRule.{AllPlaced}
 
 abbrev pub Mine : Type 0
 Mine = Me (Unit {0}) View
@@ -78,6 +79,7 @@ pub record MayPublish (k : Shape) (a : Account) (block : ℕ) : Type 0 where
   pub may : MayMark k a
   pub sealed : IsSealed a.room.sealed block
   pub fresh : ¬ (IsAmong a.room.published block)
+  pub placed : AllPlaced k a.who a.room.used a.tree.placed block
 
 -- the last mark of a block may be stored: the number's log word was loaded as its publication, and this mark, at the front that is
 -- seen, as no event's
