@@ -6,7 +6,10 @@ use Rattle.htss_defs.specs.declared.shape.Shape.{Shape}
 use Rattle.board_core.specs.declared.account.View.{View}
 use Rattle.board_core.specs.Words.{parts_of}
 use Rattle.board_core.specs.Histories.{history_of}
+use Rattle.board_core.specs.Sheets.{sheet_of}
 use Rattle.board_core.proofs.Answered.{known, agree_all}
+use Rattle.board_core.proofs.ChainFrame.{tree_true}
+use Rattle.board_core.proofs.OldRows.{found_old}
 use Rattle.board.specs.Closed.{IsSettled, Ends, closing}
 
 pub settled : (k : Shape) (ws : List ℕ) (v : View) → Ends k ws v → IsSettled (closing k ws v)
@@ -19,6 +22,8 @@ settled k ws v e = subst (λ (x : List ℕ). IsSettled (closing k x v)) e.4
       words = parts_of k e.0.words;
       shows = refl;
       may = λ j a there. record { known = known k (parts_of k e.0.words) e.0.views e.2.rule; agrees = agree_all k (parts_of k e.0.words) (history_of k (parts_of k e.0.words)) e.0.views e.2.rule e.1 v e.3 j a there };
+      chains = λ j a there i n at. tree_true k (parts_of k e.0.words).pages (sheet_of (parts_of k e.0.words).pool.states e.0.views) n.entry (e.2.rule.chains e.1 v e.3 j a there i n at);
+      rows = λ n old. found_old k (parts_of k e.0.words) (history_of k (parts_of k e.0.words)) e.0.views n e.2.rule old;
     })
 
 -- what a list has at a place

@@ -15,6 +15,10 @@ use Rattle.board_core.specs.Steps.{MayBe}
 use Rattle.board_core.specs.Histories.{history_of}
 use Rattle.board_core.specs.Accounts.{accounts_in}
 use Rattle.board_core.specs.Truths.{IsTrueStory}
+use Rattle.board_core.specs.Rows.{codes_in}
+use Rattle.board_core.specs.RowWalk.{IsFound}
+use Rattle.board_core.specs.OldRows.{IsOldRow}
+use Rattle.board_core.specs.ChainRule.{IsTrueTree}
 use Rattle.board_core.specs.Holds.{Holds}
 
 -- the words from a place of the table on, counted from 0
@@ -39,7 +43,7 @@ abbrev pub Ends : Shape → List ℕ → View → Type 0
 Ends k ws v = (s : State (Unit {0}) View) × (id : ℕ) × Holds k s × (get_elem? s.views id ≡ some v) × (s.words ≡ ws)
 
 -- the history is legal, fits the log and is by its loaders, and each account is true of it; the words that show it are such as each
--- account has loaded
+-- account has loaded. A chain that was answered to be full is there, and the walk of each row of a published record finds it
 pub record IsSettled (c : Closing) : Type 0 where
   pub legal : IsLegal c.history
   pub fits : length c.history ≤ c.shape.log
@@ -48,3 +52,5 @@ pub record IsSettled (c : Closing) : Type 0 where
   pub words : Parts
   pub shows : history_of c.shape words ≡ c.history
   pub may : Each (MayBe c.shape words) c.accounts
+  pub chains : Each (λ a. Each (λ n. IsTrueTree c.shape words.pages n.entry) a.entries) c.accounts
+  pub rows : (n : ℕ) → IsOldRow c.shape words.regions words.log.slots words.log.front n → IsFound words.pages (codes_in c.shape words.regions n) n

@@ -21,7 +21,7 @@ use Rattle.board_core.specs.Truths.{entry_of}
 use Rattle.board_core.specs.Sheets.{Sheet, sheet_of, IsLinked, owns}
 use Rattle.board_core.specs.ClassTree.{Place, kind_of, header_of, slot_at, page_room, at_way, PageStands, Tree}
 use Rattle.board_core.specs.KnownPages.{place_of, IsFullLeaf, KnowsPages}
-use Rattle.board_core.specs.ChainRule.{HasFullChain, IsTrueChain, ChainRule, IsToldChain}
+use Rattle.board_core.specs.ChainRule.{HasFullChain, IsTrueTree, IsTrueChain, ChainRule, IsToldChain}
 use Rattle.board_core.specs.After.{noted}
 use Rattle.board_core.proofs.Lists.{each_none, each_cons, each_append}
 use Rattle.board_core.proofs.Everyone.{mine, moved}
@@ -65,6 +65,19 @@ true_later k w u s z e (LogFull front) t = tt
 true_later k w u s z e (DataFull left need) t = tt
 true_later k w u s z e NoPage t = tt
 true_later k w u s z e (Swept need front rows) t = tt
+
+-- by the words alone
+pub tree_true : (k : Shape) (w : ℕ → ℕ → ℕ) (s : Sheet) (x : Entry) → IsTrueChain k w s x → IsTrueTree k w x
+tree_true k w s (ChainFull pages) t = (t.0, t.1.chain)
+tree_true k w s (Published number event) t = tt
+tree_true k w s (Withdrawn number event) t = tt
+tree_true k w s (Answered query budget front reply) t = tt
+tree_true k w s (Unknown number front) t = tt
+tree_true k w s (Ended number at) t = tt
+tree_true k w s (LogFull front) t = tt
+tree_true k w s (DataFull left need) t = tt
+tree_true k w s NoPage t = tt
+tree_true k w s (Swept need front rows) t = tt
 
 abbrev AreTrueOf : Shape → (ℕ → ℕ → ℕ) → Sheet → List Noted → Type 0
 AreTrueOf k w s es = Each (λ n. IsTrueChain k w s n.entry) es

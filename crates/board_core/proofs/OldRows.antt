@@ -9,11 +9,14 @@ use Rattle.board_core.specs.Blocks.{atoms_in}
 use Rattle.board_core.specs.Histories.{block_at}
 use Rattle.board_core.specs.RoomRule.{store_of}
 use Rattle.board_core.specs.MarkRule.{ShowsAt, IsAmong}
-use Rattle.board_core.specs.Rows.{words_of, IsPlaced}
+use Rattle.board_core.specs.Sheets.{sheet_of}
+use Rattle.board_core.specs.Rows.{words_of, codes_in, IsPlaced}
+use Rattle.board_core.specs.RowWalk.{IsFound}
 use Rattle.board_core.specs.OldRows.{IsOldRow}
 use Rattle.board_core.specs.Holds.{Rule}
 use Rattle.board_core.proofs.RoomFrame.{block_stands}
 use Rattle.board_core.proofs.MarkKnown.{shows_here}
+use Rattle.board_core.proofs.RowWalk.{found}
 
 pub old_placed : (k : Shape) (p : Parts) (h : List Event) (vs : List View) (f n : ℕ) → Rule k p h vs → f ≤ p.log.front → IsOldRow k p.regions p.log.slots f n → IsPlaced vs n × (n ≢ 0)
 old_placed k p h vs f n r most old =
@@ -31,3 +34,8 @@ old_placed k p h vs f n r most old =
     let above = old.above in
     let names : block * 2 ^ 10 + old.atom ≡ n = old.names in
     ((j, v, at, t, a, there, (record { block = block; atom = old.atom }, placed, old.names)), λ e. omega arith)
+
+-- and so their walks find them
+pub found_old : (k : Shape) (p : Parts) (h : List Event) (vs : List View) (n : ℕ) → Rule k p h vs → IsOldRow k p.regions p.log.slots p.log.front n → IsFound p.pages (codes_in k p.regions n) n
+found_old k p h vs n r old = found p.pages (sheet_of p.pool.states vs) r.tree.place (codes_in k p.regions) (IsPlaced vs) r.tree.tree n
+    (r.tree.tree.placed n (old_placed k p h vs p.log.front n r (omega arith) old).0)

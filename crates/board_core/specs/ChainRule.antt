@@ -38,6 +38,19 @@ IsTrueChain k w s NoPage = Unit {0}
 IsTrueChain k w s (ChainFull pages) = (pages ≡ k.chain) × HasFullChain w s pages
 IsTrueChain k w s (Swept need front rows) = Unit {0}
 
+-- the part that reads the words of pages
+abbrev pub IsTrueTree : Shape → (ℕ → ℕ → ℕ) → Entry → Type 0
+IsTrueTree k w (Published number event) = Unit {0}
+IsTrueTree k w (Withdrawn number event) = Unit {0}
+IsTrueTree k w (Answered query budget front reply) = Unit {0}
+IsTrueTree k w (Unknown number front) = Unit {0}
+IsTrueTree k w (Ended number at) = Unit {0}
+IsTrueTree k w (LogFull front) = Unit {0}
+IsTrueTree k w (DataFull left need) = Unit {0}
+IsTrueTree k w NoPage = Unit {0}
+IsTrueTree k w (ChainFull pages) = (pages ≡ k.chain) × IsFullChain w pages
+IsTrueTree k w (Swept need front rows) = Unit {0}
+
 abbrev pub ChainRule : Shape → (ℕ → ℕ → ℕ) → Sheet → List View → Type 0
 ChainRule k w s vs = EachAccount (λ a. Each (λ n. IsTrueChain k w s n.entry) a.entries) vs
 
