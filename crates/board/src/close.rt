@@ -7,7 +7,7 @@ ghost use Rattle.board_core.specs.Blocks.{block_size, first_of};
 ghost use Rattle.board_core.specs.Each.{Each};
 ghost use Rattle.board_core.specs.Accounts.{accounts_in, keeping, view};
 ghost use Rattle.board.specs.Seated.{IsOf, IsAtRest, account_of};
-ghost use Rattle.board.specs.Closed.{IsSettled, words_from};
+ghost use Rattle.board.specs.Closed.{IsSettled, IsShown, words_from};
 
 use crate::places::{log_place, words_in};
 use crate::plays::Kept;
@@ -20,7 +20,7 @@ use std::alloc::Global;
 use std::marker::Model;
 use std::snapshot::Snapshot;
 
-/// A board that was closed. Contracts see its shape, the history, and the accounts of its callers.
+/// A board that was closed. Contracts see its shape, the history, the states of its pages, and the accounts of its callers.
 pub struct Final {
     closed: Closed<(), Global>,
     shape: Shape,
@@ -83,9 +83,10 @@ pub fn gather(board: Board, mut callers: Vec<Caller>) -> Final
 }
 
 impl Final {
-    /// The history is legal and fits the log, and each account is true of it.
+    /// The history is legal and fits the log, and each account is true. The history is shown by words such as each account has loaded.
     pub fn is_settled(&self)
-        ensures { IsSettled self.now }
+        ensures settled { IsSettled self.now }
+        ensures shown { IsShown self.now }
     {
         let _closed = &self.closed;
     }

@@ -1,5 +1,5 @@
 -- A history with one more event: what stays, and what is new.
-use Rattle.std.proofs.Common.{◌≡◌, ◌≢◌, ℕ, ◌+◌, ◌-◌, ◌<◌, ◌≤◌, ◌==◌, ◌⊎◌, cond, List, [], ◌∷◌, ◌++◌, length, get_or, sym, ap, subst, ◌∙◌, inl, inr, arith, append-nil, eq-eqb, ne_eqb}
+use Rattle.std.proofs.Common.{◌≡◌, ◌≢◌, ℕ, ◌+◌, ◌-◌, ◌<◌, ◌≤◌, ◌==◌, ◌⊎◌, cond, List, [], ◌∷◌, ◌++◌, length, filter, get_or, sym, ap, subst, ◌∙◌, inl, inr, arith, append-nil, eq-eqb, ne_eqb}
 use Rattle.std.specs.Prelude.{Some}
 use Rattle.std.proofs.lemmas.Bool.{cases_lt}
 use Rattle.std.proofs.lemmas.List.{length_push, get_or_append_left, get_or_push}
@@ -9,7 +9,7 @@ use Rattle.htss_defs.specs.declared.history.Event.{Event}
 use Rattle.htss_defs.specs.declared.history.Event.TheVariants.{Publish, Withdraw}
 use Rattle.htss_defs.specs.Molecule.{Molecule}
 use Rattle.htss_defs.specs.History.{HasEvent, Publishes, Withdraws, IsLegal}
-use Rattle.board_core.specs.Histories.{IsOpen, MayFollow, caller_of, events_by}
+use Rattle.board_core.specs.Histories.{IsOpen, MayFollow, caller_of, numbered, events_by}
 
 pub event_within : (h : List Event) (number : ℕ) (x : Event) → HasEvent h number x → number ≤ length h
 event_within h number x has = omega (arith, has.0, slice_get_within h (number - 1) x has.1)
@@ -74,8 +74,18 @@ legal_more h e legal may = record {
 
 -- ---- the events of one loader
 
-pub by_other : (h : List Event) (e : Event) (c : ℕ) → caller_of e ≢ c → events_by c (h ++ e ∷ []) ≡ events_by c h
-by_other h e c other = filter-append (λ x. caller_of x == c) h (e ∷ []) ∙ subst (λ b. events_by c h ++ cond b (e ∷ []) [] ≡ events_by c h) (sym (ne_eqb (caller_of e) c other)) (append-nil (events_by c h))
+numbered_last : (first : ℕ) (h : List Event) (e : Event) → numbered first (h ++ e ∷ []) ≡ numbered first h ++ (first + length h, e) ∷ []
+numbered_last first [] e = ap (λ n. (n, e) ∷ []) (omega arith)
+numbered_last first (x ∷ xs) e = ap (λ l. (first, x) ∷ l) (numbered_last (first + 1) xs e ∙ ap (λ n. numbered (first + 1) xs ++ (n, e) ∷ []) (omega arith))
 
-pub by_this : (h : List Event) (e : Event) (c : ℕ) → caller_of e ≡ c → events_by c (h ++ e ∷ []) ≡ events_by c h ++ e ∷ []
-by_this h e c same = filter-append (λ x. caller_of x == c) h (e ∷ []) ∙ ap (λ b. events_by c h ++ cond b (e ∷ []) []) (eq-eqb (caller_of e) c same)
+by_last : (h : List Event) (e : Event) (c : ℕ) → events_by c (h ++ e ∷ []) ≡ events_by c h ++ cond (caller_of e == c) ((1 + length h, e) ∷ []) []
+by_last h e c = ap (filter (λ x. caller_of x.1 == c)) (numbered_last 1 h e) ∙ filter-append (λ x. caller_of x.1 == c) (numbered 1 h) ((1 + length h, e) ∷ [])
+
+pub by_other : (h : List Event) (e : Event) (c : ℕ) → caller_of e ≢ c → events_by c (h ++ e ∷ []) ≡ events_by c h
+by_other h e c other = by_last h e c ∙ subst (λ b. events_by c h ++ cond b ((1 + length h, e) ∷ []) [] ≡ events_by c h) (sym (ne_eqb (caller_of e) c other)) (append-nil (events_by c h))
+
+pub by_this : (h : List Event) (e : Event) (c number : ℕ) → caller_of e ≡ c → number ≡ length h + 1 → events_by c (h ++ e ∷ []) ≡ events_by c h ++ (number, e) ∷ []
+by_this h e c number same is =
+    by_last h e c
+    ∙ (ap (λ b. events_by c h ++ cond b ((1 + length h, e) ∷ []) []) (eq-eqb (caller_of e) c same)
+    ∙ ap (λ n. events_by c h ++ (n, e) ∷ []) (omega (arith, is)))

@@ -76,6 +76,7 @@ pub mod Announce
 pub mod PassCaller
 pub mod LoadState
 pub mod TakePage
+pub mod ToldTwice
 pub mod RetirePage
 pub mod PoolTree
 pub mod Treed

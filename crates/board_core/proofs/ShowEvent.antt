@@ -111,7 +111,7 @@ loader_made k vs id v c r at is = dite (dec_le c (made vs)) (λ within. within)
     let most : is_seat k c v.me.who ≤ total (λ y. is_seat k c y.who) vs = at_most (λ y. is_seat k c y.who) vs id v at in
     let one = seat_one k v.me.who c is in absurd (omega arith))
 
-told_event : (l : Loads) (number : ℕ) (e : Event) → told_in (noted l (entry_of number e ∷ [])) ≡ e ∷ []
+told_event : (l : Loads) (number : ℕ) (e : Event) → told_in (noted l (entry_of number e ∷ [])) ≡ (number, e) ∷ []
 told_event l number (Publish caller name mol) = refl
 told_event l number (Withdraw caller target) = refl
 
@@ -119,15 +119,15 @@ true_event : (k : Shape) (h : List Event) (number : ℕ) (e : Event) → HasEven
 true_event k h number (Publish caller name mol) has = has
 true_event k h number (Withdraw caller target) has = has
 
-own_event : (h : List Event) (e : Event) (who : Who) → who ≡ Loader (caller_of e) → own_events (h ++ e ∷ []) who ≡ own_events h who ++ e ∷ []
-own_event h e who is = subst (λ (x : Who). own_events (h ++ e ∷ []) x ≡ own_events h x ++ e ∷ []) (sym is) (by_this h e (caller_of e) refl)
+own_event : (h : List Event) (e : Event) (who : Who) (number : ℕ) → who ≡ Loader (caller_of e) → number ≡ length h + 1 → own_events (h ++ e ∷ []) who ≡ own_events h who ++ (number, e) ∷ []
+own_event h e who number is next = subst (λ (x : Who). own_events (h ++ e ∷ []) x ≡ own_events h x ++ (number, e) ∷ []) (sym is) (by_this h e (caller_of e) number refl next)
 
 shown_story : (k : Shape) (h : List Event) (e : Event) (a : Account) (number : ℕ) → number ≡ length h + 1 → a.who ≡ Loader (caller_of e) → IsTrueStory k h a.who a.entries
     → IsTrueStory k (h ++ e ∷ []) a.who (a.entries ++ noted a.loads (entry_of number e ∷ []))
 shown_story k h e a number is who t = record {
   each = each_append (λ n. IsTrueLog k (h ++ e ∷ []) n.entry) a.entries (noted a.loads (entry_of number e ∷ [])) (λ j n there. true_more k h e n.entry (t.each j n there))
       (each_cons (λ n. IsTrueLog k (h ++ e ∷ []) n.entry) _ [] (true_event k (h ++ e ∷ []) number e (subst (λ n. HasEvent (h ++ e ∷ []) n e) (sym is) (event_last h e))) (each_none (λ n. IsTrueLog k (h ++ e ∷ []) n.entry)));
-  own = own_event h e a.who who ∙ (ap (λ l. l ++ e ∷ []) t.own ∙ (ap (λ l. told_in a.entries ++ l) (sym (told_event a.loads number e)) ∙ sym (told_in-append a.entries (noted a.loads (entry_of number e ∷ [])))));
+  own = own_event h e a.who number who is ∙ (ap (λ l. l ++ (number, e) ∷ []) t.own ∙ (ap (λ l. told_in a.entries ++ l) (sym (told_event a.loads number e)) ∙ sym (told_in-append a.entries (noted a.loads (entry_of number e ∷ [])))));
 }
 
 pub shown_stories : (k : Shape) (h : List Event) (vs : List View) (id : ℕ) (v : View) (e : Event) → SeatRule k vs → StoryRule k h vs → get_elem? vs id ≡ some v → v.me.who ≡ Loader (caller_of e) → 0 < caller_of e → v.me.log.seen ≡ length h

@@ -166,7 +166,7 @@ take_page k p h vs id loader q v r at may = by_pool k p (record p.pool { states 
 changed_busy : (k : Shape) (w : PoolWords) (vs : List View) (id loader q x : ℕ) (v : View) → PoolRule k w vs → get_elem? vs id ≡ some v → MayTakePage k v.me loader q x → w.states q ≢ x → w.states q ≢ 0
 changed_busy k w vs id loader q x v r at may other = dite (ℕ_discrete x 0)
     (λ z e. other (e ∙ sym z))
-    (λ some_x. let (j, l, there, page, word) = may.seen some_x in
+    (λ some_x. let (j, l, there, page, word) = may.seen in
     subst (λ (z : ℕ). w.states z ≢ 0) page ((mine (λ a. StatesStand w.states a.loads) vs id v at r.states).seen j l there (λ z. some_x (sym word ∙ z))))
 
 pub page_allowed : (k : Shape) (slots id loader q x at_word : ℕ) (m : Mine) → at_word ≡ states_at k + (q - 1) → MayTakePage k m.0.me loader q x → Allows (Holds k) slots id m at_word (λ n. either (n == x) 1 n) (TakesPage q (step slots at_word x 1 none) m)

@@ -1,4 +1,4 @@
--- What was answered of an empty pool is true: no page is free.
+-- What was answered of an empty pool is true: no page is free (this project's own).
 use Rattle.std.specs.Prelude.{ℕ, List}
 use Rattle.htss_defs.specs.declared.shape.Shape.{Shape}
 use Rattle.board_core.specs.declared.account.View.{View}

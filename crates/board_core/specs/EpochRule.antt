@@ -1,5 +1,5 @@
--- Epochs and announcements: the epoch is no less than any that was loaded or announced, and what a caller says that it has announced
--- stands there.
+-- Epochs and announcements (this project's own): the epoch is no less than any that was loaded or announced, and what a caller says
+-- that it has announced stands there.
 use Rattle.std.specs.Prelude.{◌≡◌, ℕ, ◌-◌, ◌<◌, ◌≤◌, ◌^◌, List}
 use Rattle.htss_defs.specs.declared.shape.Shape.{Shape}
 use Rattle.board_core.specs.declared.account.Account.{Account}

@@ -1,4 +1,4 @@
--- Which leaves a caller holds: those that it has reached since its pin.
+-- Which leaves a caller holds (this project's own): those that it has reached since its pin.
 use Rattle.std.specs.Prelude.{ℕ, Bool, true, false, List, [], ◌∷◌}
 use Rattle.board_core.specs.declared.tree.Reached.{Reached}
 

@@ -1,5 +1,5 @@
 -- The history that the words show, and which event may come next.
-use Rattle.std.specs.Prelude.{◌≡◌, ℕ, ◌+◌, ◌-◌, ◌==◌, List, filter, if◌then◌else◌}
+use Rattle.std.specs.Prelude.{◌≡◌, ℕ, ◌+◌, ◌-◌, ◌==◌, List, [], ◌∷◌, filter, if◌then◌else◌}
 use Rattle.htss_defs.specs.declared.shape.Shape.{Shape}
 use Rattle.htss_defs.specs.declared.history.Event.{Event}
 use Rattle.htss_defs.specs.declared.history.Event.TheVariants.{Publish, Withdraw}
@@ -28,9 +28,14 @@ abbrev pub caller_of : Event → ℕ
 caller_of (Publish caller name mol) = caller
 caller_of (Withdraw caller number) = caller
 
--- the events of one loader, in order
-abbrev pub events_by : ℕ → List Event → List Event
-events_by loader h = filter (λ e. caller_of e == loader) h
+-- the events with their numbers, where the first has this one
+abbrev pub numbered : ℕ → List Event → List (ℕ × Event)
+numbered first [] = []
+numbered first (e ∷ es) = (first, e) ∷ numbered (first + 1) es
+
+-- the events of one loader, in order, each with its number
+abbrev pub events_by : ℕ → List Event → List (ℕ × Event)
+events_by loader h = filter (λ e. caller_of e.1 == loader) (numbered 1 h)
 
 abbrev pub IsPublished : List Event → ℕ → Type 0
 IsPublished h number = (name : List ℕ) × (mol : Molecule) × Publishes h number name mol

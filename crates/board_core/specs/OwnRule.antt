@@ -1,4 +1,4 @@
--- Own pages: what an account says that it has stored in a page of its own, in order, stands there.
+-- Own pages (this project's own): what an account says that it has stored in a page of its own, in order, stands there.
 use Rattle.std.specs.Prelude.{◌≡◌, ℕ, List}
 use mathlib.Core.Option.{some}
 use lib.ListN.{get_elem?}

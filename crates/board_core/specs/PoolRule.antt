@@ -1,4 +1,4 @@
--- The pool: epochs, page status, held leaves, scans, and that no page is free again.
+-- The pool (this project's own): epochs, page status, held leaves, scans, and that no page is free again.
 use Rattle.std.specs.Prelude.{List}
 use Rattle.htss_defs.specs.declared.shape.Shape.{Shape}
 use Rattle.board_core.specs.declared.account.View.{View}

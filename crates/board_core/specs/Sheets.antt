@@ -1,4 +1,4 @@
--- What all accounts together say of each page, as four numbers, and the page's status from these.
+-- What all accounts together say of each page, as four numbers, and the page's status from these (this project's own).
 use Rattle.std.specs.Prelude.{◌≡◌, ℕ, ◌+◌, ◌-◌, ◌==◌, List, if◌then◌else◌}
 use Rattle.board_core.specs.declared.account.View.{View}
 use Rattle.board_core.specs.declared.pool.Own.{Own}

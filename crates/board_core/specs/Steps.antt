@@ -130,13 +130,13 @@ pub record MayPass (k : Shape) (a : Account) (i : ℕ) : Type 0 where
   pub here : a.pool.passed ≡ i
   pub inside : i < k.loaders + k.searchers
 
--- a page whose state is this word may be taken: it is free, or its state was loaded as retired below the least epoch of a scan that
--- has passed all callers
+-- a page whose state was loaded as this word may be taken: it was free, or retired below the least epoch of a scan that has passed all
+-- callers
 pub record MayTakePage (k : Shape) (a : Account) (loader p x : ℕ) : Type 0 where
   pub who : a.who ≡ Loader loader
   pub inside : IsPage k p
   pub other : x ≢ 1
-  pub seen : x ≢ 0 → HasState a p x
+  pub seen : HasState a p x
   pub below : x ≢ 0 → x ≤ a.pool.low
   pub scanned : x ≢ 0 → k.loaders + k.searchers ≤ a.pool.passed
 

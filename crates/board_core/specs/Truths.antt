@@ -58,14 +58,14 @@ IsTruePool k states NoPage = (p : ℕ) → 0 < p → p ≤ k.pages → states p 
 IsTruePool k states (ChainFull pages) = Unit {0}
 IsTruePool k states (Swept need front rows) = Unit {0}
 
--- the entry of an event, and the events that an entry tells of
+-- the entry of an event, and the events that an entry tells of, with their numbers
 abbrev pub entry_of : ℕ → Event → Entry
 entry_of number (Publish caller name mol) = Published number (Publish caller name mol)
 entry_of number (Withdraw caller target) = Withdrawn number (Withdraw caller target)
 
-abbrev pub told_by : Entry → List Event
-told_by (Published number event) = event ∷ []
-told_by (Withdrawn number event) = event ∷ []
+abbrev pub told_by : Entry → List (ℕ × Event)
+told_by (Published number event) = (number, event) ∷ []
+told_by (Withdrawn number event) = (number, event) ∷ []
 told_by (Answered query budget front reply) = []
 told_by (Unknown number front) = []
 told_by (Ended number at) = []
@@ -75,19 +75,19 @@ told_by NoPage = []
 told_by (ChainFull pages) = []
 told_by (Swept need front rows) = []
 
-abbrev pub told_in : List Noted → List Event
+abbrev pub told_in : List Noted → List (ℕ × Event)
 told_in [] = []
 told_in (n ∷ ns) = told_by n.entry ++ told_in ns
 
--- the events of a history that are a caller's own
-abbrev pub own_events : List Event → Who → List Event
+-- the events of a history that are a caller's own, with their numbers
+abbrev pub own_events : List Event → Who → List (ℕ × Event)
 own_events h (Loader n) = events_by n h
 own_events h (Searcher n) = []
 own_events h (Opener n) = []
 own_events h Note = []
 own_events h Gone = []
 
--- an account's entries are true, and tell of exactly its events, in order
+-- an account's entries are true, and tell of exactly its own events, in order, each by its number
 pub record IsTrueStory (k : Shape) (h : List Event) (who : Who) (entries : List Noted) : Type 0 where
   pub each : Each (λ n. IsTrueLog k h n.entry) entries
   pub own : own_events h who ≡ told_in entries

@@ -13,7 +13,7 @@ use Rattle.board_core.proofs.PageSums.{where_same, where_other}
 use Rattle.board_core.specs.declared.account.Who.{Who}
 use Rattle.board_core.specs.declared.account.Who.TheVariants.{Loader}
 use Rattle.board.specs.Seated.{Place, IsOf, IsLoader, number_in, Seated, with_account, with_stock, with_next}
-use Rattle.page_pool.specs.Taking.{AreRound, HasScanned, HasLooked, HasTaken, HasFound, IsRefused, IsGiven}
+use Rattle.page_pool.specs.Taking.{page_before, AreRound, HasScanned, HasLooked, HasTaken, HasFound, IsRefused, IsGiven}
 use Rattle.page_pool.proofs.Passing.{scanned_stock, scanned_next, scanned_own, scanned_of, scanned_who}
 use Rattle.page_pool.proofs.Looks.{looked_of}
 
@@ -28,16 +28,18 @@ if_some None A B f a = tt
 pub found : (k : Shape) (next : ℕ) (c m l d : Seated) (page : ℕ) → HasScanned k c m → next ≡ m.next → HasTaken (AreRound k.pages next) m l page → d ≡ with_next l page → HasFound k c d page
 found k next c m l d page scanned is taken after = record { middle = m; scanned = scanned; last = l; taken = subst (λ (z : ℕ). HasTaken (AreRound k.pages z) m l page) (is ∙ scanned_next k c m scanned) taken; after = after }
 
-pub refused : (k : Shape) (low next : ℕ) (c m l d : Seated) → HasScanned k c m → m.account.pool.low ≡ low → next ≡ m.next → HasLooked (AreRound k.pages next) low 1 (k.pages + 1) m l → d ≡ with_account l (after_answer l.account (NoPage ∷ [])) → IsRefused k c d
-refused k low next c m l d scanned is from looked after = record {
-  middle = m;
-  scanned = scanned;
-  last = l;
-  looked = subst (λ (z : ℕ × ℕ). HasLooked (AreRound k.pages z.0) z.1 1 (k.pages + 1) m l) (λ i. ((from ∙ scanned_next k c m scanned) i, sym is i)) looked;
-  after = after;
-  own = ap (λ (x : Seated). x.account.pool.own) after ∙ (ap (λ (x : Seated). x.account.pool.own) looked.after ∙ scanned_own k c m scanned);
-  stock = ap (λ (x : Seated). x.stock) after ∙ (ap (λ (x : Seated). x.stock) looked.after ∙ scanned_stock k c m scanned);
-}
+pub refused : (k : Shape) (low next last : ℕ) (c m l n d : Seated) → HasScanned k c m → m.account.pool.low ≡ low → next ≡ m.next → HasLooked (AreRound k.pages next) low 1 (k.pages + 1) m l → n ≡ with_account l (after_answer l.account (NoPage ∷ []))
+    → last ≡ page_before k.pages next → d ≡ with_next n last → IsRefused k c d
+refused k low next last c m l n d scanned is from looked answered before after =
+    let began : next ≡ c.next = from ∙ scanned_next k c m scanned in record {
+      middle = m;
+      scanned = scanned;
+      last = l;
+      looked = subst (λ (z : ℕ × ℕ). HasLooked (AreRound k.pages z.0) z.1 1 (k.pages + 1) m l) (λ i. (began i, sym is i)) looked;
+      after = after ∙ (λ i. with_next (answered i) ((before ∙ ap (page_before k.pages) began) i));
+      own = ap (λ (x : Seated). x.account.pool.own) after ∙ (ap (λ (x : Seated). x.account.pool.own) answered ∙ (ap (λ (x : Seated). x.account.pool.own) looked.after ∙ scanned_own k c m scanned));
+      stock = ap (λ (x : Seated). x.stock) after ∙ (ap (λ (x : Seated). x.stock) answered ∙ (ap (λ (x : Seated). x.stock) looked.after ∙ scanned_stock k c m scanned));
+    }
 
 -- one that was kept
 pub given_kept : (k : Shape) (c d : Seated) (page : ℕ) → (d ≡ with_stock c d.stock) × (c.stock ≡ d.stock ++ page ∷ []) × IsPage c.shape page × HasOwn c.account page × ¬ (IsAmong d.stock page) → IsGiven k c d page

@@ -1,3 +1,4 @@
 pub mod Looks
 pub mod Passing
 pub mod Giving
+pub mod Holding

@@ -30,7 +30,7 @@ may_take k c d page state low is loader inside_page least all other below = subs
   who = loader;
   inside = inside_page;
   other = other;
-  seen = λ _. (length c.account.loads.states, loaded page state, at_last c.account.loads.states (loaded page state) (length c.account.loads.states) refl, refl, refl);
+  seen = (length c.account.loads.states, loaded page state, at_last c.account.loads.states (loaded page state) (length c.account.loads.states) refl, refl, refl);
   below = λ _. omega arith;
   scanned = λ _. all;
 }
@@ -62,14 +62,21 @@ between_both f m u ss ts a b = let first = a.count in let second = b.count in re
   count = let both = length-append ss ts in omega arith;
 }
 
-pub round_first : (pages next u : ℕ) (ss : List StateLoad) → AreBetween next u ss → AreRound pages next ss
-round_first pages next u ss a i l there = inl (a.pages i l there)
+round_first : (pages next u : ℕ) (ss : List StateLoad) → 0 < next → u ≤ pages + 1 → AreBetween next u ss → AreRound pages next ss
+round_first pages next u ss above within a = let count = a.count in record { order = λ i l there. inl (a.pages i l there); most = omega arith }
 
-round_both : (pages next u : ℕ) (ss ts : List StateLoad) → AreBetween next (pages + 1) ss → AreBetween 1 u ts → AreRound pages next (ss ++ ts)
-round_both pages next u ss ts a b i l there = ⊎_elim
-    (λ (t : get_elem? ss i ≡ some l). inl (a.pages i l t))
-    (λ (t : (j : ℕ) × (i ≡ length ss + j) × (get_elem? ts j ≡ some l)). let e = t.1 in let page = b.pages t.0 l t.2 in let first = a.count in inr (omega arith))
-    (at_either ss ts i l there)
+round_both : (pages next u : ℕ) (ss ts : List StateLoad) → u ≤ next → AreBetween next (pages + 1) ss → AreBetween 1 u ts → AreRound pages next (ss ++ ts)
+round_both pages next u ss ts before a b = let first = a.count in record {
+  order = λ i l there. ⊎_elim
+      (λ (t : get_elem? ss i ≡ some l). inl (a.pages i l t))
+      (λ (t : (j : ℕ) × (i ≡ length ss + j) × (get_elem? ts j ≡ some l)). let e = t.1 in let page = b.pages t.0 l t.2 in inr (omega arith))
+      (at_either ss ts i l there);
+  most = let second = b.count in let both = length-append ss ts in omega arith;
+}
+
+-- no more exchanges than loads, in both of two looks
+fewer_both : (ss ts ls ms : List StateLoad) → length ls ≤ length ss → length ms ≤ length ts → length (ls ++ ms) ≤ length (ss ++ ts)
+fewer_both ss ts ls ms a b = let loads = length-append ss ts in let exchanges = length-append ls ms in omega arith
 
 -- ---- one page's look
 
@@ -85,6 +92,7 @@ looked_busy low page state c d is busy = record {
   states = loaded page state ∷ [];
   lost = [];
   order = between_one page state;
+  fewer = omega arith;
   busy = λ p from until. inl record { index = 0; load = loaded page state; there = refl; page_is = one_page page p from until; busy = busy };
   after = no_more c d page state (λ a. a) is;
 }
@@ -95,6 +103,7 @@ exchanged true low page state c m d is after fresh = record {
   states = loaded page state ∷ [];
   lost = [];
   order = between_one page state;
+  fewer = omega arith;
   fresh = ap (λ (x : Seated). owns page x.account.pool.own) (sym is) ∙ fresh refl;
   after = no_more c d page state (λ a. after_page a page) (after ∙ ap (λ (x : Seated). with_account x (after_page x.account page)) is);
 }
@@ -102,6 +111,7 @@ exchanged false low page state c m d is (found, other, after) fresh = record {
   states = loaded page state ∷ [];
   lost = loaded page found ∷ [];
   order = between_one page state;
+  fewer = omega arith;
   busy = λ p from until. inr record { index = 0; load = loaded page state; there = refl; page_is = one_page page p from until; lost_index = 0; found = loaded page found; lost_there = refl; found_page = one_page page p from until; changed = other };
   after = after ∙ ap (λ (x : Seated). with_account x (after_lost x.account page found)) is;
 }
@@ -113,6 +123,7 @@ looked_none low from c = record {
   states = [];
   lost = [];
   order = record { pages = λ i l there. absurd (some-ne-none l (sym there)); count = omega arith };
+  fewer = omega arith;
   busy = λ p above below. absurd (omega arith);
   after = λ i. with_account c (record c.account { loads = record c.account.loads { states = sym (append-nil c.account.loads.states) i; lost = sym (append-nil c.account.loads.lost) i } });
 }
@@ -146,6 +157,7 @@ looked_parts O P Q both low f m g n from until c d e each a b = record {
   states = a.states ++ b.states;
   lost = a.lost ++ b.lost;
   order = both a.states b.states a.order b.order;
+  fewer = fewer_both a.states b.states a.lost b.lost a.fewer b.fewer;
   busy = λ p above below. ⊎_elim
       (λ (t : (f ≤ p) × (p < m)). busy_first low a.states a.lost b.states b.lost p (a.busy p t.0 t.1))
       (λ (t : (g ≤ p) × (p < n)). busy_second low a.states a.lost b.states b.lost p (b.busy p t.0 t.1))
@@ -162,13 +174,14 @@ pub looked_next : (low from page : ℕ) (c d e : Seated) → HasLooked (AreBetwe
 looked_next low from page c d e a b = looked_parts (AreBetween from page) (AreBetween page (page + 1)) (AreBetween from (page + 1)) (between_both from page (page + 1)) low from page page (page + 1) from (page + 1) c d e (λ p above below. ⊎_elim (λ (t : p < page). inl (above, t)) (λ (t : page ≤ p). inr (t, below)) (less_or p page)) a b
 
 pub looked_round : (low next pages : ℕ) (c d e : Seated) → HasLooked (AreBetween next (pages + 1)) low next (pages + 1) c d → HasLooked (AreBetween 1 next) low 1 next d e → HasLooked (AreRound pages next) low 1 (pages + 1) c e
-looked_round low next pages c d e a b = looked_parts (AreBetween next (pages + 1)) (AreBetween 1 next) (AreRound pages next) (round_both pages next next) low next (pages + 1) 1 next 1 (pages + 1) c d e (λ p above below. ⊎_elim (λ (t : p < next). inr (above, t)) (λ (t : next ≤ p). inl (t, below)) (less_or p next)) a b
+looked_round low next pages c d e a b = looked_parts (AreBetween next (pages + 1)) (AreBetween 1 next) (AreRound pages next) (λ ss ts. round_both pages next next ss ts (omega arith)) low next (pages + 1) 1 next 1 (pages + 1) c d e (λ p above below. ⊎_elim (λ (t : p < next). inr (above, t)) (λ (t : next ≤ p). inl (t, below)) (less_or p next)) a b
 
 taken_parts : (O P Q : List StateLoad → Type 0) → ((ss ts : List StateLoad) → O ss → P ts → Q (ss ++ ts)) → (low from until page : ℕ) (c d e : Seated) → HasLooked O low from until c d → HasTaken P d e page → HasTaken Q c e page
 taken_parts O P Q both low from until page c d e a t = record {
   states = a.states ++ t.states;
   lost = a.lost ++ t.lost;
   order = both a.states t.states a.order t.order;
+  fewer = fewer_both a.states t.states a.lost t.lost a.fewer t.fewer;
   fresh = ap (λ (x : Seated). owns page x.account.pool.own) (sym a.after) ∙ t.fresh;
   after = looks_both c d e (λ x. after_page x page) a.states a.lost t.states t.lost a.after t.after;
 }
@@ -176,11 +189,11 @@ taken_parts O P Q both low from until page c d e a t = record {
 pub taken_next : (low from page : ℕ) (c d e : Seated) → HasLooked (AreBetween from page) low from page c d → HasTaken (AreBetween page (page + 1)) d e page → HasTaken (AreBetween from (page + 1)) c e page
 taken_next low from page c d e a t = taken_parts (AreBetween from page) (AreBetween page (page + 1)) (AreBetween from (page + 1)) (between_both from page (page + 1)) low from page page c d e a t
 
-pub taken_first : (pages next page : ℕ) (c d : Seated) → HasTaken (AreBetween next (page + 1)) c d page → HasTaken (AreRound pages next) c d page
-taken_first pages next page c d t = record { states = t.states; lost = t.lost; order = round_first pages next (page + 1) t.states t.order; fresh = t.fresh; after = t.after }
+pub taken_first : (pages next page : ℕ) (c d : Seated) → 0 < next → page ≤ pages → HasTaken (AreBetween next (page + 1)) c d page → HasTaken (AreRound pages next) c d page
+taken_first pages next page c d above within t = record { states = t.states; lost = t.lost; order = round_first pages next (page + 1) t.states above (omega arith) t.order; fewer = t.fewer; fresh = t.fresh; after = t.after }
 
-pub taken_round : (low next pages page : ℕ) (c d e : Seated) → HasLooked (AreBetween next (pages + 1)) low next (pages + 1) c d → HasTaken (AreBetween 1 (page + 1)) d e page → HasTaken (AreRound pages next) c e page
-taken_round low next pages page c d e a t = taken_parts (AreBetween next (pages + 1)) (AreBetween 1 (page + 1)) (AreRound pages next) (round_both pages next (page + 1)) low next (pages + 1) page c d e a t
+pub taken_round : (low next pages page : ℕ) (c d e : Seated) → page < next → HasLooked (AreBetween next (pages + 1)) low next (pages + 1) c d → HasTaken (AreBetween 1 (page + 1)) d e page → HasTaken (AreRound pages next) c e page
+taken_round low next pages page c d e before a t = taken_parts (AreBetween next (pages + 1)) (AreBetween 1 (page + 1)) (AreRound pages next) (λ ss ts. round_both pages next (page + 1) ss ts (omega arith)) low next (pages + 1) page c d e a t
 
 -- ---- what a look leaves
 

@@ -37,16 +37,24 @@ may_retire k c d page epoch is above within free = subst (λ (x : Seated). MayRe
 -- the epoch loaded at last is later, or the last
 pub has_risen : (c d f g : Seated) (first epoch : ℕ) → d ≡ with_account c (after_epoch c.account first) → HasTried first d f → g ≡ with_account f (after_epoch f.account epoch) → 0 < epoch → epoch ≤ last_epoch → Each (IsPast epoch) f.account.loads.epochs → f.account.pool.risen ≤ epoch → HasRisen c g epoch
 has_risen c d f g first epoch loaded tried after above most later risen =
-    let come : f ≡ with_account c (risen_to (after_epoch c.account first) tried.risen) = tried.after ∙ ap (λ (x : Seated). with_account x (risen_to x.account tried.risen)) loaded in
-    let known : f.account.pool.risen ≡ tried.risen = ap (λ (x : Seated). x.account.pool.risen) come in
-    let past : IsPast epoch first = (subst (λ (x : Seated). Each (IsPast epoch) x.account.loads.epochs) come later) (length c.account.loads.epochs) first (at_last c.account.loads.epochs first (length c.account.loads.epochs) refl) in
+    let t : HasTried first (with_account c (after_epoch c.account first)) f = subst (λ (x : Seated). HasTried first x f) loaded tried in
+    let known : f.account.pool.risen ≡ t.risen = ap (λ (x : Seated). x.account.pool.risen) t.after in
+    let past : IsPast epoch first = (subst (λ (x : Seated). Each (IsPast epoch) x.account.loads.epochs) t.after later) (length c.account.loads.epochs) first (at_last c.account.loads.epochs first (length c.account.loads.epochs) refl) in
     let reached : first ≤ epoch = past.1 in record {
       first = first;
-      risen = tried.risen;
+      middle = f;
+      tried = t;
       above = above;
-      later = ⊎_elim (λ (t : first < tried.risen). inl (omega arith)) (λ (t : first ≡ last_epoch). inr (omega arith)) tried.come;
-      after = after ∙ ap (λ (x : Seated). with_account x (after_epoch x.account epoch)) come;
+      later = ⊎_elim
+          (λ (u : (first < last_epoch) × (t.risen ≡ first + 1)). let next = u.1 in inl (omega arith))
+          (λ (u : (first ≡ last_epoch) × (t.risen ≡ c.account.pool.risen)). let last = u.0 in inr (omega arith))
+          t.come;
+      after = after;
     }
+
+-- the account after all three
+pub risen_is : (c d : Seated) (epoch : ℕ) (r : HasRisen c d epoch) → d ≡ with_account c (after_epoch (risen_to (after_epoch c.account r.first) r.tried.risen) epoch)
+risen_is c d epoch r = r.after ∙ ap (λ (x : Seated). with_account x (after_epoch x.account epoch)) r.tried.after
 
 -- ---- the announcements
 
@@ -121,7 +129,7 @@ scanned k c m d epoch risen passed = record {
   middle = m;
   risen = risen;
   passed = passed;
-  least = subst (λ (x : ℕ × ℕ). IsLeast x.0 x.1 passed.announced) (λ i. (ap (λ (x : Seated). x.account.pool.low) (sym passed.after) i, ap (λ (x : Seated). x.account.pool.low) risen.after i)) (passed_least m.account passed.announced);
+  least = subst (λ (x : ℕ × ℕ). IsLeast x.0 x.1 passed.announced) (λ i. (ap (λ (x : Seated). x.account.pool.low) (sym passed.after) i, ap (λ (x : Seated). x.account.pool.low) (risen_is c m epoch risen) i)) (passed_least m.account passed.announced);
 }
 
 -- ---- what a scan leaves
@@ -130,7 +138,7 @@ pub risen_fresh : (c d : Seated) (epoch : ℕ) → HasRisen c d epoch → (d.acc
 risen_fresh c d epoch r = (ap (λ (x : Seated). x.account.pool.passed) r.after, ap (λ (x : Seated). x.account.pool.low) r.after)
 
 pub risen_of : (b : Place) (c d : Seated) (epoch : ℕ) → HasRisen c d epoch → IsOf b c → IsOf b d
-risen_of b c d epoch r of = subst (IsOf b) (sym r.after) record { table = of.table; shape = of.shape }
+risen_of b c d epoch r of = subst (IsOf b) (sym (risen_is c d epoch r)) record { table = of.table; shape = of.shape }
 
 passed_who : (a : Account) (ns : List ℕ) → (all_passed a ns).who ≡ a.who
 passed_who a [] = refl
@@ -140,7 +148,7 @@ pub scanned_of : (k : Shape) (b : Place) (c d : Seated) → HasScanned k c d →
 scanned_of k b c d s of = let mid = risen_of b c s.middle s.epoch s.risen of in subst (IsOf b) (sym s.passed.after) record { table = mid.table; shape = mid.shape }
 
 pub scanned_who : (k : Shape) (c d : Seated) → HasScanned k c d → d.account.who ≡ c.account.who
-scanned_who k c d s = ap (λ (x : Seated). x.account.who) s.passed.after ∙ (passed_who s.middle.account s.passed.announced ∙ ap (λ (x : Seated). x.account.who) s.risen.after)
+scanned_who k c d s = ap (λ (x : Seated). x.account.who) s.passed.after ∙ (passed_who s.middle.account s.passed.announced ∙ ap (λ (x : Seated). x.account.who) (risen_is c s.middle s.epoch s.risen))
 
 pub scanned_loader : (k : Shape) (c d : Seated) → HasScanned k c d → IsLoader c → IsLoader d
 scanned_loader k c d s loader = subst (λ (w : Who). w ≡ Loader (number_in w)) (sym (scanned_who k c d s)) loader
@@ -149,14 +157,14 @@ pub scanned_passed : (k : Shape) (c d : Seated) → HasScanned k c d → d.accou
 scanned_passed k c d s = ap (λ (x : Seated). x.account.pool.passed) s.passed.after ∙ (passed_count s.middle.account s.passed.announced ∙ (let fresh = (risen_fresh c s.middle s.epoch s.risen).0 in let all = s.passed.all in omega arith))
 
 pub scanned_stock : (k : Shape) (c d : Seated) → HasScanned k c d → d.stock ≡ c.stock
-scanned_stock k c d s = ap (λ (x : Seated). x.stock) s.passed.after ∙ ap (λ (x : Seated). x.stock) s.risen.after
+scanned_stock k c d s = ap (λ (x : Seated). x.stock) s.passed.after ∙ ap (λ (x : Seated). x.stock) (risen_is c s.middle s.epoch s.risen)
 
 passed_own : (a : Account) (ns : List ℕ) → (all_passed a ns).pool.own ≡ a.pool.own
 passed_own a [] = refl
 passed_own a (n ∷ ns) = passed_own (after_pass a n) ns
 
 pub scanned_own : (k : Shape) (c d : Seated) → HasScanned k c d → d.account.pool.own ≡ c.account.pool.own
-scanned_own k c d s = ap (λ (x : Seated). x.account.pool.own) s.passed.after ∙ (passed_own s.middle.account s.passed.announced ∙ ap (λ (x : Seated). x.account.pool.own) s.risen.after)
+scanned_own k c d s = ap (λ (x : Seated). x.account.pool.own) s.passed.after ∙ (passed_own s.middle.account s.passed.announced ∙ ap (λ (x : Seated). x.account.pool.own) (risen_is c s.middle s.epoch s.risen))
 
 pub scanned_next : (k : Shape) (c d : Seated) → HasScanned k c d → d.next ≡ c.next
-scanned_next k c d s = ap (λ (x : Seated). x.next) s.passed.after ∙ ap (λ (x : Seated). x.next) s.risen.after
+scanned_next k c d s = ap (λ (x : Seated). x.next) s.passed.after ∙ ap (λ (x : Seated). x.next) (risen_is c s.middle s.epoch s.risen)

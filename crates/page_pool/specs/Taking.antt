@@ -1,5 +1,5 @@
--- What the calls of the pool do to their caller.
-use Rattle.std.specs.Prelude.{◌≡◌, ◌≢◌, ℕ, ◌+◌, ◌<◌, ◌≤◌, ◌⊎◌, List, [], ◌∷◌, ◌++◌, length}
+-- What the calls of the pool do to their caller (this project's own).
+use Rattle.std.specs.Prelude.{◌≡◌, ◌≢◌, ◌==◌, ℕ, ◌+◌, ◌-◌, ◌<◌, ◌≤◌, ◌⊎◌, List, [], ◌∷◌, ◌++◌, length, if◌then◌else◌}
 use mathlib.Core.Option.{some}
 use lib.ListN.{get_elem?}
 use Rattle.htss_defs.specs.declared.shape.Shape.{Shape}
@@ -35,19 +35,20 @@ pub record IsRetired (c d : Seated) (page : ℕ) : Type 0 where
 abbrev pub risen_to : Account → ℕ → Account
 risen_to a e = record a { pool = record a.pool { risen = e } }
 
--- the epoch after this one was tried: it is known to have come, unless this is the last
+-- the epoch after this one was tried: it is known to have come. After the last one nothing is tried
 pub record HasTried (first : ℕ) (c d : Seated) : Type 0 where
   pub risen : ℕ
-  pub come : (first < risen) ⊎ (first ≡ last_epoch)
+  pub come : ((first < last_epoch) × (risen ≡ first + 1)) ⊎ ((first ≡ last_epoch) × (risen ≡ c.account.pool.risen))
   pub after : d ≡ with_account c (risen_to c.account risen)
 
 -- the epoch was loaded, the next one tried, and the epoch loaded again: it is later, or the last
 pub record HasRisen (c d : Seated) (epoch : ℕ) : Type 0 where
   pub first : ℕ
-  pub risen : ℕ
+  pub middle : Seated
+  pub tried : HasTried first (with_account c (after_epoch c.account first)) middle
   pub above : 0 < epoch
   pub later : (first < epoch) ⊎ (epoch ≡ last_epoch)
-  pub after : d ≡ with_account c (after_epoch (risen_to (after_epoch c.account first) risen) epoch)
+  pub after : d ≡ with_account middle (after_epoch middle.account epoch)
 
 -- after these announcements were loaded
 abbrev pub all_passed : Account → List ℕ → Account
@@ -106,15 +107,17 @@ pub record AreBetween (from until : ℕ) (ss : List StateLoad) : Type 0 where
   pub pages : (i : ℕ) (l : StateLoad) → get_elem? ss i ≡ some l → l.page ≡ from + i
   pub count : from + length ss ≡ until
 
--- from this page on, one after the other, where the first follows the last
-abbrev pub AreRound : ℕ → ℕ → List StateLoad → Type 0
-AreRound pages next ss = (i : ℕ) (l : StateLoad) → get_elem? ss i ≡ some l → (l.page ≡ next + i) ⊎ (l.page + pages ≡ next + i)
+-- from this page on, one after the other, where the first follows the last, and none twice
+pub record AreRound (pages next : ℕ) (ss : List StateLoad) : Type 0 where
+  pub order : (i : ℕ) (l : StateLoad) → get_elem? ss i ≡ some l → (l.page ≡ next + i) ⊎ (l.page + pages ≡ next + i)
+  pub most : length ss ≤ pages
 
--- each of these pages was busy, and the states were loaded in this order
+-- each of these pages was busy, and the states were loaded in this order, with an exchange at most for each
 pub record HasLooked (Order : List StateLoad → Type 0) (low from until : ℕ) (c d : Seated) : Type 0 where
   pub states : List StateLoad
   pub lost : List StateLoad
   pub order : Order states
+  pub fewer : length lost ≤ length states
   pub busy : (page : ℕ) → from ≤ page → page < until → WasBusy low states lost page
   pub after : d ≡ with_account c (with_looks c.account states lost)
 
@@ -123,6 +126,7 @@ pub record HasTaken (Order : List StateLoad → Type 0) (c d : Seated) (page : �
   pub states : List StateLoad
   pub lost : List StateLoad
   pub order : Order states
+  pub fewer : length lost ≤ length states
   pub fresh : owns page c.account.pool.own ≡ 0
   pub after : d ≡ with_account c (after_page (with_looks c.account states lost) page)
 
@@ -136,13 +140,17 @@ pub record HasFound (k : Shape) (c d : Seated) (page : ℕ) : Type 0 where
   pub taken : HasTaken (AreRound k.pages c.next) middle last page
   pub after : d ≡ with_next last page
 
--- after a scan and a look each page was busy, and the call answers so
+-- the page before this one, where the last one is before the first
+abbrev pub page_before : ℕ → ℕ → ℕ
+page_before pages page = if page == 1 then pages else page - 1
+
+-- after a scan and a look each page was busy, the call answers so, and the next look begins where this one ended
 pub record IsRefused (k : Shape) (c d : Seated) : Type 0 where
   pub middle : Seated
   pub scanned : HasScanned k c middle
   pub last : Seated
   pub looked : HasLooked (AreRound k.pages c.next) middle.account.pool.low 1 (k.pages + 1) middle last
-  pub after : d ≡ with_account last (after_answer last.account (NoPage ∷ []))
+  pub after : d ≡ with_next (with_account last (after_answer last.account (NoPage ∷ []))) (page_before k.pages c.next)
   pub own : d.account.pool.own ≡ c.account.pool.own
   pub stock : d.stock ≡ c.stock
 

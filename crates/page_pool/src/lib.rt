@@ -2,11 +2,13 @@
 //! again once no announced epoch is as early as its stamp. Epoch-based reclamation after Fraser, over words and accounts.
 #![tactic(auto)]
 
+mod law;
 mod pins;
 mod retires;
 mod scans;
 mod takes;
 
+pub use law::law_of_holding;
 pub use pins::{pin, unpin};
 pub use retires::retire;
 pub use takes::{NoPage, keep, take};

@@ -94,7 +94,7 @@ fn look_from(board: &Board, caller: &mut Caller, from: u32, until: u32, low: u64
     requires range { (0 < from) × (from ≤ until) × (until ≤ board.now.shape.pages + 1) }
     requires low { caller.old.account.pool.low ≡ low }
     requires scanned { board.now.shape.loaders + board.now.shape.searchers ≤ caller.old.account.pool.passed }
-    ensures some { IfSome result (λ page. IsPage board.now.shape page × HasTaken (AreBetween from (page + 1)) caller.old caller.new page) }
+    ensures some { IfSome result (λ page. (from ≤ page) × (page < until) × HasTaken (AreBetween from (page + 1)) caller.old caller.new page) }
     ensures none { IfNone result (HasLooked (AreBetween from until) low from until caller.old caller.new) }
 {
     for page in from..until {

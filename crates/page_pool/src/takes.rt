@@ -3,10 +3,11 @@ ghost use Rattle.std.specs.Prelude.{◌≡◌, ◌<◌, ◌≤◌, ◌++◌, [],
 ghost use Rattle.board_core.specs.Loaded.{IsPage, HasOwn};
 ghost use Rattle.board_core.specs.MarkRule.{IsAmong};
 ghost use Rattle.board.specs.Seated.{IsOf, IsLoader, with_stock};
-ghost use Rattle.page_pool.specs.Taking.{HasFound, IsGiven, IsRefused};
+ghost use Rattle.page_pool.specs.Taking.{HasFound, IsGiven, IsRefused, page_before};
 
 use crate::scans::{look_round, scan_callers};
 use board::{Answers, Board, Caller, note_answers};
+use htss_defs::Shape;
 
 /// The caller keeps no page, and none was free or retired below the least announced epoch.
 #[derive(Clone, Copy, Debug, PartialEq, Eq, Drop)]
@@ -20,6 +21,15 @@ impl Answers for Refused {
     ghost use Rattle.board_core.specs.declared.entry.Entry.TheVariants.{NoPage};
 
     ghost entries = { NoPage ∷ [] };
+}
+
+// The page at which a look at all pages ends that begins here.
+fn end_of_round(shape: Shape, page: u32) -> u32
+    requires { IsPage shape page }
+    ensures before { result ≡ page_before shape.pages page }
+    ensures page { IsPage shape result }
+{
+    if page == 1 { shape.pages } else { page - 1 }
 }
 
 // All pages are looked at, from the one where the last look ended.
@@ -38,6 +48,7 @@ fn find_page(board: &Board, caller: &mut Caller) -> Option<u32>
         }
         None => {
             note_answers::<Refused>(board, caller);
+            caller.begin_at(end_of_round(board.shape(), next));
             None
         }
     }

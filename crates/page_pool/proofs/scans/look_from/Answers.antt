@@ -10,8 +10,6 @@ loop-page-preserved c = looked_next _ _ _ _ c.loop-page.caller _ c.loop-page.inv
 
 pub returns-then-try_page-clause-some : goal.returns-then-try_page-clause-some
 returns-then-try_page-clause-some c =
-    let above = c.requires.range.0 in
-    let most = c.requires.range.2 in
     let from = c.loop-page.auto.page in
     let below = c.loop-page-test.true in
-    ((omega arith, omega arith), taken_next _ _ _ _ c.loop-page.caller _ c.loop-page.invariant c.if-try_page.ensures)
+    (omega arith, omega arith, taken_next _ _ _ _ c.loop-page.caller _ c.loop-page.invariant c.if-try_page.ensures)

@@ -17,4 +17,4 @@ returns-clause-none c =
 pub returns-clause-some : goal.returns-clause-some
 returns-clause-some c =
     let first = subst (λ (k : Shape). HasLooked (AreBetween c.args.next (k.pages + 1)) c.args.low c.args.next (k.pages + 1) c.args.caller.now c.look_from.new.caller) c.shape-end.ensures.value c.in_default.ensures.none in
-    if_some c.look_from-2.result _ _ (λ page t. (t.0, taken_round _ _ _ page _ _ _ first t.1)) c.look_from-2.ensures.some
+    if_some c.look_from-2.result _ _ (λ page t. let above = t.0 in let before = t.1 in let within = c.requires.next.1 in ((omega arith, omega arith), taken_round _ _ _ page _ _ _ t.1 first t.2)) c.look_from-2.ensures.some
