@@ -27,6 +27,7 @@ use Rattle.std.proofs.lemmas.List.{length_push}
 use Rattle.board_core.specs.declared.room.Sealed.{Sealed}
 use Rattle.board_core.specs.Words.{regions_size}
 use Rattle.board_core.specs.After.{after_word}
+use Rattle.board_core.specs.Rows.{RowsFit}
 use Rattle.board_core.specs.Steps.{MayStore, MaySeal, IsKnownRoom, Stores}
 use Rattle.board_core.specs.RoomRule.{store_of, region_of, SealedFits, RoomFits}
 use Rattle.board_core.proofs.RoomFrame.{history_kept, size_least}
@@ -84,11 +85,12 @@ next_inside k a loader may fits =
     inside_it from base low used room high e u g = omega arith
 
 -- what the rule says of the room
-known_room : (k : Shape) (regions : ℕ → ℕ) (a : Account) → RoomFits k regions (store_of a) → AreListed a.room → IsKnownRoom k a
-known_room k regions a f listed = record {
+known_room : (k : Shape) (regions : ℕ → ℕ) (a : Account) → RoomFits k regions (store_of a) → AreListed a.room → RowsFit k a.who a.room.used a.room.sealed a.tree → IsKnownRoom k a
+known_room k regions a f listed rows = record {
   before = λ j s there. let t = f.sealed j s there in let until = t.until in let least = size_least (region_of k a.who) a.room.used s t in omega arith;
   within = λ j s there. (f.sealed j s there).until;
   listed = listed;
+  placed = λ j r there. let begun = rows.placed j r there in (rows.begun begun.0 r begun.1).sealed;
 }
 
 -- a loader is not gone
@@ -110,7 +112,8 @@ stored_allowed k slots id place loader word m more is may adds seals s h _ at _ 
       record {
         after = refl;
         room = subst (λ (z : Shape). IsKnownRoom z m.0.me) (sym (h.rule.seats.shapes id m.0 at (loader_stays m.0.me.who loader may.who)))
-            (known_room k p.regions m.0.me (mine (λ x. RoomFits k p.regions (store_of x)) s.views id m.0 at h.rule.rooms.rooms) (mine (λ x. AreListed x.room) s.views id m.0 at h.rule.marks.listed));
+            (known_room k p.regions m.0.me (mine (λ x. RoomFits k p.regions (store_of x)) s.views id m.0 at h.rule.rooms.rooms) (mine (λ x. AreListed x.room) s.views id m.0 at h.rule.marks.listed)
+            (mine (λ x. RowsFit k x.who x.room.used x.room.sealed x.tree) s.views id m.0 at h.rule.rows));
       },
     )
 

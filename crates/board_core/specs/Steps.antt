@@ -309,11 +309,12 @@ pub record LoadsFront (s : Step (Unit {0})) (m : Mine) (found : ℕ) (n : Mine) 
   pub same : m.0.me.log.holding ≡ Fronted → found ≡ m.0.me.log.seen
 
 -- what the rule says of an own region: each sealed block begins before the next word and ends there or before, and what is published
--- is sealed
+-- is sealed, as is the block of each row that is placed
 pub record IsKnownRoom (k : Shape) (a : Account) : Type 0 where
   pub before : Each (λ t. t.place < region_of k a.who + length a.room.used) a.room.sealed
   pub within : Each (λ t. t.place + t.size ≤ region_of k a.who + length a.room.used) a.room.sealed
   pub listed : AreListed a.room
+  pub placed : Each (λ r. IsSealed a.room.sealed r.block) a.tree.placed
 
 -- a word of the region is stored, and completes these blocks; what was stored before is as the rule says
 pub record Stores (more : List Sealed) (s : Step (Unit {0})) (m : Mine) (found : ℕ) (n : Mine) : Type 0 where

@@ -1,1 +1,3 @@
 pub mod Sealing
+pub mod Rows
+pub mod Staged
