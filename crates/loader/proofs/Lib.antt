@@ -1,3 +1,3 @@
 pub mod Sealing
-pub mod Rows
+pub mod BlockRows
 pub mod Staged

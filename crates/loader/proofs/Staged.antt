@@ -25,7 +25,7 @@ use Rattle.board.specs.Staging.{Staging, IsWritten, IsStaged, StayStaged, KeepsR
 use Rattle.board.proofs.StagedStays.{written_stays, staged_stays, room_same}
 use Rattle.class_tree.specs.declared.insert.InsertError.{InsertError}
 use Rattle.loader.specs.Stages.{next_block, staging, after_block, rows_of, HasRows, WasStopped}
-use Rattle.loader.proofs.Rows.{rows_in}
+use Rattle.loader.proofs.BlockRows.{rows_in}
 
 -- ---- what is kept
 
@@ -49,20 +49,14 @@ keeps_rows a b block begun placed es rows = record {
 
 -- ---- records that were staged before
 
-before_next : (k : Shape) (a : Account) (s : Staging) → IsStaged k a s → s.block < next_block k a
-before_next k a s h = let until = h.written.until in let some = some_words (own_block k (store_of a) s.block 0) in omega arith
-  where
-    some_words : (n : ℕ) → 3 ≤ block_size n
-    some_words n = omega arith
-
-pub staged_apart : (k : Shape) (a : Account) (name : List ℕ) (mol : Molecule) (t s : Staging) → s ≡ staging k a name mol → IsStaged k a t → t.block ≢ s.block
-staged_apart k a name mol t s is h same = let less = before_next k a t h in let there : s.block ≡ next_block k a = ap (λ (x : Staging). x.block) is in absurd (omega arith)
-
-pub others_kept : (k : Shape) (a b : Account) (s : Staging) (begun placed : ℕ) (es : List Entry) → HasRows (after_block a s) b s.block begun placed es → StayStaged k a b
-others_kept k a b s begun placed es rows t h =
+others_kept : (k : Shape) (a b : Account) (s : Staging) (block begun placed : ℕ) (es : List Entry) → HasRows (after_block a s) b block begun placed es → StayStaged k a b
+others_kept k a b s block begun placed es rows t h =
     let first : IsStaged k (after_block a s) t = staged_stays k a (after_block a s) t h (keeps_block a s) h.written.fresh in
-    staged_stays k (after_block a s) b t first (keeps_rows (after_block a s) b s.block begun placed es rows)
+    staged_stays k (after_block a s) b t first (keeps_rows (after_block a s) b block begun placed es rows)
     (λ among. h.written.fresh (subst (λ (x : RoomAccount). IsAmong x.published t.block) rows.room among))
+
+pub others_after : (k : Shape) (c d : Seated) (b : Account) (s : Staging) (block begun placed : ℕ) (es : List Entry) → d ≡ with_account c (after_block c.account s) → HasRows d.account b block begun placed es → StayStaged k c.account b
+others_after k c d b s block begun placed es is rows = others_kept k c.account b s block begun placed es (subst (λ (x : Seated). HasRows x.account b block begun placed es) is rows)
 
 pub others_answered : (k : Shape) (c d : Seated) (es : List Entry) → d ≡ with_account c (after_answer c.account es) → StayStaged k c.account d.account
 others_answered k c d es is = subst (λ (x : Seated). StayStaged k c.account x.account) (sym is) (room_same k c.account (after_answer c.account es) refl refl refl)
@@ -86,7 +80,7 @@ atoms_same k a s h =
 pub atoms_enough : (k : Shape) (d : Seated) (s : Staging) (atoms : ℕ) → IsWritten k d.account s → atoms ≡ length s.mol.atoms → atoms ≤ atoms_in (words_of k d.account.who d.account.room.used s.block 0)
 atoms_enough k d s atoms h is = let same = atoms_same k d.account s h in omega arith
 
-pub all_staged : (k : Shape) (a b : Account) (s : Staging) (es : List Entry) → IsWritten k a s → HasRows a b s.block (length s.mol.atoms) (length s.mol.atoms) es → IsStaged k b s
+all_staged : (k : Shape) (a b : Account) (s : Staging) (es : List Entry) → IsWritten k a s → HasRows a b s.block (length s.mol.atoms) (length s.mol.atoms) es → IsStaged k b s
 all_staged k a b s es h rows = record {
   written = written_stays k a b s h (keeps_rows a b s.block (length s.mol.atoms) (length s.mol.atoms) es rows) (λ among. h.fresh (subst (λ (x : RoomAccount). IsAmong x.published s.block) rows.room among));
   placed = λ atom above most. subst (λ (l : List Row). In (record { block = s.block; atom = atom }) l) (sym rows.rows_placed)
@@ -99,3 +93,7 @@ all_staged k a b s es h rows = record {
     in_right : (xs ys : List Row) (r : Row) → In r ys → In r (xs ++ ys)
     in_right [] ys r h = h
     in_right (x ∷ xs) ys r h = let t = in_right xs ys r h in (suc t.0, t.1)
+
+pub staged_now : (k : Shape) (d e : Seated) (s t : Staging) (place atoms : ℕ) → IsWritten k d.account s → HasRows d.account e.account place atoms atoms [] → place ≡ s.block → atoms ≡ length s.mol.atoms → t ≡ s → IsStaged k e.account t
+staged_now k d e s t place atoms h rows here all is = subst (IsStaged k e.account) (sym is)
+    (all_staged k d.account e.account s [] h (subst (λ (x : ℕ × ℕ). HasRows d.account e.account x.0 x.1 x.1 []) (λ i. (here i, all i)) rows))

@@ -24,11 +24,12 @@ use Rattle.board_core.specs.RoomRule.{IsSealed}
 use Rattle.board_core.specs.Rows.{words_of, own_codes, RowFits, IsOwnRow}
 use Rattle.board_core.specs.After.{noted}
 use Rattle.board_core.proofs.Grown.{grows_same, grows_trans}
-use Rattle.board_core.proofs.Lists.{at_longer, at_last, at_end, each_none, each_append}
+use Rattle.board_core.proofs.Lists.{at_longer, at_last, at_end, each_append}
 use Rattle.board.specs.Seated.{Seated}
 use Rattle.class_tree.specs.declared.insert.InsertError.{InsertError}
 use Rattle.class_tree.specs.declared.insert.InsertError.TheVariants.{NoPage, ChainFull}
-use Rattle.class_tree.specs.Inserting.{code_loads, HasBegun, HasPlaced, HasAnswered, IsRefusal}
+use Rattle.class_tree.specs.Loading.{code_loads}
+use Rattle.class_tree.specs.Inserting.{HasBegun, HasPlaced, HasAnswered, IsRefusal}
 use Rattle.loader.specs.Stages.{rows_of, HasRows, WasStopped, told_of}
 
 abbrev pub row_at : ℕ → ℕ → Row
@@ -42,8 +43,8 @@ rows_in block (suc n) atom above most = dite (ℕ_discrete atom (n + 1))
     (λ e. subst (λ (x : ℕ). In (record { block = block; atom = x }) (rows_of block n ++ row_at block n ∷ [])) (sym e) (length (rows_of block n), at_last (rows_of block n) (row_at block n) (length (rows_of block n)) refl))
     (λ other. let h = rows_in block n atom above (omega arith) in (h.0, at_longer (rows_of block n) (row_at block n ∷ []) h.0 (record { block = block; atom = atom }) h.1))
 
-rows_low : (block n : ℕ) → Each (λ r. r.atom ≤ n) (rows_of block n)
-rows_low block zero = each_none (λ r. r.atom ≤ 0)
+rows_low : (block n j : ℕ) (r : Row) → get_elem? (rows_of block n) j ≡ some r → r.atom ≤ n
+rows_low block zero j r there = absurd (some-ne-none r (sym there))
 rows_low block (suc n) j r there = ⊎_elim
     (λ (t : get_elem? (rows_of block n) j ≡ some r). let less = rows_low block n j r t in omega arith)
     (λ (t : (j ≡ length (rows_of block n)) × (row_at block n ≡ r)). subst (λ (x : Row). x.atom ≤ suc n) t.1 (omega arith))
