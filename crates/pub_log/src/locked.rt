@@ -114,6 +114,7 @@ impl Locked {
         requires held { IsHeld board.now.shape caller.old.account self }
         requires loader { IsLoader caller.old }
         ensures of { IsOf board.now caller.new }
+        ensures stock { caller.new.stock ≡ caller.old.stock }
         ensures ok { IfOk result (λ n. (n ≡ self + 1) × (self < board.now.shape.log)
             × IsCalled caller.old.account caller.new.account n (Withdrawn n (Withdraw (number_of caller.old) number) ∷ [])) }
         ensures refused { IfErr result (λ e. IsRefusal board.now.shape caller.new.account self number e

@@ -16,6 +16,7 @@ use Rattle.searcher.proofs.at_front.fill.Goals as goal
 pub loop-index-init : goal.loop-index-init
 loop-index-init c = record {
   of = c.requires.fits;
+  stock = refl;
   reads = reads_same c.args.caller.now.account;
   size = refl;
   walked = walked_none c.args.board.now.shape c.args.caller.now.account c.args.query.now c.args.front c.args.budget c.new-search.result.matcher c.new-search.result.front c.new-search.result.left c.new-search.result.records 0 c.args.hits.now
@@ -50,6 +51,7 @@ loop-index-preserved c =
     let a = c.loop-index.caller.account in
     let b = c.load_live.new.caller.account in record {
       of = c.load_live.ensures.of;
+      stock = c.load_live.ensures.stock ∙ c.loop-index.invariant.stock;
       reads = reads_trans c.args.caller.now.account a b c.loop-index.invariant.reads c.load_live.ensures.reads;
       size = c.load_live.ensures.size;
       walked = elim c.match-read.branch [

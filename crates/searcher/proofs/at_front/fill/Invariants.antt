@@ -7,6 +7,7 @@ use Rattle.searcher.proofs.at_front.fill.Given as goal
 abbrev pub invariant-loop-index : goal.invariant-loop-index
 invariant-loop-index l = record {
   of : IsOf l.board l.caller;
+  stock : l.caller.stock ≡ l.fn.caller.stock;
   reads : Reads l.fn.caller.account l.caller.account;
   size : length l.words ≡ 7200;
   walked : Walked l.board.shape l.caller.account l.query l.front l.budget l.index l.search.matcher l.search.front l.search.left l.search.records l.rows l.hits;
