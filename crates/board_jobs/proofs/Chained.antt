@@ -1,5 +1,5 @@
 -- Answers of one caller, one after the other.
-use Rattle.std.proofs.Common.{◌≡◌, Result, Ok, Err, OnErr, IfErr, ℕ, ◌<◌, ◌≤◌, List, [], ◌∷◌, ◌++◌, length, map, sym, ap, subst, ◌∙◌, refl, All}
+use Rattle.std.proofs.Common.{◌≡◌, Result, Ok, Err, OnErr, IfErr, ℕ, ◌<◌, ◌≤◌, List, [], ◌∷◌, ◌++◌, length, map, sym, ap, subst, ◌∙◌, refl, arith, All}
 use Rattle.std.proofs.lemmas.List.{map-append}
 use Rattle.std.proofs.lemmas.List.Elements.{All-nil, All-cons}
 use Rattle.htss_defs.specs.declared.shape.Shape.{Shape}
@@ -15,7 +15,7 @@ use Rattle.board_core.specs.declared.log.Holding.TheVariants.{Away}
 use Rattle.board_core.specs.Loaded.{Grows}
 use Rattle.board_core.specs.After.{noted}
 use Rattle.board_core.proofs.Grown.{grows_same, grows_trans}
-use Rattle.board.specs.Seated.{Place, Seated, IsLoader, number_in, with_account}
+use Rattle.board.specs.Seated.{Place, Seated, IsNew, IsLoader, number_in, with_account}
 use Rattle.board_jobs.specs.Telling.{entries_in}
 use Rattle.board_jobs.specs.Answering.{who_of, IsAnswered, AreAnswered}
 use Rattle.board_core.specs.declared.pool.PoolAccount.{PoolAccount}
@@ -86,6 +86,18 @@ stocked_after c d pool stock h = record {
   own = λ q own. subst (λ (l : List ℕ). IsAmong l q) (sym stock) (h.own q (subst (λ (p : PoolAccount). 0 < owns q p.own) pool own));
   size = subst (λ (l : List ℕ). length l ≤ 32) (sym stock) h.size;
   clean = ap (λ (p : PoolAccount). p.parted) pool ∙ h.clean;
+}
+
+-- a caller of a board that was just opened is ready
+pub new_ready : (b : Place) (made : ℕ) (c : Seated) → IsNew b made c → IsReady c
+new_ready b made c new = record {
+  free = ap (λ (a : Account). a.log.holding) new.account;
+  unpinned = ap (λ (a : Account). a.pool.announced) new.account;
+  stocked = record {
+    own = λ q own. let none : 0 < 0 = subst (λ (a : Account). 0 < owns q a.pool.own) new.account own in absurd (omega arith);
+    size = subst (λ (l : List ℕ). length l ≤ 32) (sym new.stock) (omega arith);
+    clean = ap (λ (a : Account). a.pool.parted) new.account;
+  };
 }
 
 pub ready_after : (b : Place) (c d : Seated) → IsReady c → d.stock ≡ c.stock → IsFreed b c.account d.account → IsReady d
