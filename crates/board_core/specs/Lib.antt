@@ -42,5 +42,6 @@ pub mod PinRule
 pub mod ChainRule
 pub mod After
 pub mod Loaded
+pub mod Answers
 pub mod Holds
 pub mod Steps

@@ -1,5 +1,5 @@
 -- Why a withdrawal is refused, and why it may be made, by the log word and the mark that were loaded.
-use Rattle.std.proofs.Common.{◌≡◌, ℕ, ◌+◌, ◌-◌, ◌<◌, ◌≤◌, ◌⊎◌, [], ◌∷◌, length, refl, sym, subst, arith, inl, inr, ◌≢◌}
+use Rattle.std.proofs.Common.{◌≡◌, ℕ, ◌+◌, ◌-◌, ◌<◌, ◌≤◌, ◌⊎◌, List, [], ◌∷◌, length, refl, sym, ◌∙◌, subst, arith, inl, inr, ◌≢◌}
 use Rattle.htss_defs.specs.declared.shape.Shape.{Shape}
 use Rattle.board_core.specs.declared.account.Account.{Account}
 use Rattle.board_core.specs.declared.entry.Entry.TheVariants.{Unknown, Gone, LogFull}
@@ -10,13 +10,14 @@ use Rattle.board_core.specs.LogWord.{kind_in, target_in}
 use Rattle.board_core.specs.Loaded.{HasLoaded, SawMark, IsOpenMark, Grows}
 use Rattle.board_core.specs.Truths.{IsTrueLog, IsTruePool, IsTrueRoom}
 use Rattle.board_core.specs.Steps.{MayEnd, AreTrue}
-use Rattle.board_core.specs.After.{after_shown, after_mark}
+use Rattle.board_core.specs.declared.entry.Entry.{Entry}
+use Rattle.board_core.specs.After.{after_shown, after_mark, after_free}
 use Rattle.board_core.proofs.Lists.{each_none, each_cons}
 use Rattle.board_core.proofs.Grown.{has_log_word, saw_mark, loaded_stays, board_before}
 use Rattle.board_core.proofs.BlockCauses.{past_unknown, withdrawal_unknown, ended_gone, loaded_open, seen_within}
 use Rattle.board.specs.Seated.{Seated, with_account}
 use Rattle.pub_log.specs.Locking.{IsHeld, IsToldBy, IsKnownOpen}
-use Rattle.pub_log.proofs.Calls.{HasRead, read_word, read_mark, read_both, still_held}
+use Rattle.pub_log.proofs.Calls.{HasRead, read_word, read_mark, read_both, still_held, grows_freed}
 use Rattle.board_core.specs.ChainRule.{IsToldChain}
 
 -- the log is full
@@ -72,6 +73,20 @@ withdrawal_told k c d number word is above inside two = subst (λ (s : Seated). 
 pub block_loaded : (k : Shape) (c d : Seated) (number word : ℕ) → d ≡ with_account c (after_shown c.account (log_at k + (number - 1)) word) → 0 < number → number ≤ k.log → ¬ (kind_in word ≡ 2) → HasLoaded k d.account number (target_in word)
 block_loaded k c d number word is above inside other = subst (λ (s : Seated). HasLoaded k s.account number (target_in word)) (sym is)
     record { word = word; log = has_log_word k c.account number word above inside; kind = other; names = refl }
+
+-- what was told under the lock is told when it is free again
+pub told_free : (k : Shape) (d e : Seated) (x : Entry) (es : List Entry) → e ≡ with_account d (after_free d.account es) → IsToldBy k d.account x → IsToldBy k e.account x
+told_free k d e x es is told p board = told p (board_before k d.account e.account (grows_freed d e es is) p board)
+
+pub full_told : (k : Shape) (d e : Seated) (es : List Entry) → e ≡ with_account d (after_free d.account es) → d.account.log.seen ≡ k.log → IsToldBy k e.account (LogFull d.account.log.seen)
+full_told k d e es is full = told_free k d e (LogFull d.account.log.seen) es is (λ p board. (seen_within k p d.account board d.account.log.seen (omega arith), full))
+
+-- by the front as the lock tells it
+pub unknown_at : (k : Shape) (a b : Account) (front told number : ℕ) → a.log.seen ≡ front → told ≡ front → IsToldBy k b (Unknown number a.log.seen) → IsToldBy k b (Unknown number told)
+unknown_at k a b front told number seen same is = subst (λ (z : ℕ). IsToldBy k b (Unknown number z)) (seen ∙ sym same) is
+
+pub full_at : (k : Shape) (a b : Account) (front told : ℕ) → a.log.seen ≡ front → told ≡ front → IsToldBy k b (LogFull a.log.seen) → IsToldBy k b (LogFull told)
+full_at k a b front told seen same is = subst (λ (z : ℕ). IsToldBy k b (LogFull z)) (seen ∙ sym same) is
 
 -- the log word of a publication and the last mark of its block were loaded under the lock
 pub record HasBoth (k : Shape) (a b : Account) (front number block mark : ℕ) : Type 0 where

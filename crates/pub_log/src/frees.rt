@@ -23,7 +23,8 @@ pub(crate) fn free_full(board: &Board, caller: &mut Caller)
     requires fits { IsOf board.now caller.old }
     requires may { MayFree caller.old.account }
     requires full { caller.old.account.log.seen ≡ board.now.shape.log }
-    ensures { caller.new ≡ with_account caller.old (after_free caller.old.account (LogFull caller.old.account.log.seen ∷ [])) }
+    ensures told { IsToldBy board.now.shape caller.new.account (LogFull caller.old.account.log.seen) }
+    ensures after { caller.new ≡ with_account caller.old (after_free caller.old.account (LogFull caller.old.account.log.seen ∷ [])) }
 {
     free_lock::<Brand>(board, caller);
 }
@@ -43,7 +44,8 @@ pub(crate) fn free_unknown(board: &Board, caller: &mut Caller, number: u32)
     requires fits { IsOf board.now caller.old }
     requires may { MayFree caller.old.account }
     requires unknown { IsToldBy board.now.shape caller.old.account (Unknown number caller.old.account.log.seen) }
-    ensures { caller.new ≡ with_account caller.old (after_free caller.old.account (Unknown number caller.old.account.log.seen ∷ [])) }
+    ensures told { IsToldBy board.now.shape caller.new.account (Unknown number caller.old.account.log.seen) }
+    ensures after { caller.new ≡ with_account caller.old (after_free caller.old.account (Unknown number caller.old.account.log.seen ∷ [])) }
 {
     free_with::<Brand>(board, caller, number, 0);
 }
@@ -53,7 +55,8 @@ pub(crate) fn free_gone(board: &Board, caller: &mut Caller, number: u32, at: u32
     requires fits { IsOf board.now caller.old }
     requires may { MayFree caller.old.account }
     requires gone { IsToldBy board.now.shape caller.old.account (Gone number at) }
-    ensures { caller.new ≡ with_account caller.old (after_free caller.old.account (Gone number at ∷ [])) }
+    ensures told { IsToldBy board.now.shape caller.new.account (Gone number at) }
+    ensures after { caller.new ≡ with_account caller.old (after_free caller.old.account (Gone number at ∷ [])) }
 {
     free_with::<Brand>(board, caller, number, at);
 }

@@ -6,7 +6,7 @@ ghost use Rattle.board_core.specs.declared.log.Holding.TheVariants.{Away};
 ghost use Rattle.board_core.specs.After.{after_take, after_front, after_free};
 ghost use Rattle.board.specs.Seated.{IsOf, IsLoader, with_account, number_of};
 ghost use Rattle.board.specs.Staging.{IsStaged, StayStaged, StayStagedBut};
-ghost use Rattle.pub_log.specs.Locking.{IsHeld, IsCalled, IsRefusal, after_publication, refusal};
+ghost use Rattle.pub_log.specs.Locking.{IsHeld, IsCalled, IsRefusal, after_publication, refusal, IsToldBy};
 
 use crate::appends::{append_publication, append_withdrawal};
 use crate::frees::{Silent, free_full, free_gone, free_unknown};
@@ -103,7 +103,8 @@ impl Locked {
     }
 
     /// Appends the withdrawal of a number, and answers its own number. It is refused exactly where the number is no publication's up
-    /// to the front, where an event has withdrawn it, or else where the log is full.
+    /// to the front, where an event has withdrawn it, or else where the log is full; what it tells is true of every board that has what
+    /// the caller has loaded.
     pub fn withdraw(
         self,
         board: &Board,
@@ -119,6 +120,7 @@ impl Locked {
             × IsCalled caller.old.account caller.new.account n (Withdrawn n (Withdraw (number_of caller.old) number) ∷ [])) }
         ensures refused { IfErr result (λ e. IsRefusal board.now.shape caller.new.account self number e
             × IsCalled caller.old.account caller.new.account self (refusal number e ∷ [])) }
+        ensures told { IfErr result (λ e. IsToldBy board.now.shape caller.new.account (refusal number e)) }
     {
         let Locked { front } = self;
         if number == 0 || number > front {

@@ -1,4 +1,5 @@
 pub mod Read
+pub mod Once
 pub mod Block
 pub mod Living
 pub mod Rows

@@ -2,14 +2,14 @@
 ghost use Rattle.std.specs.Prelude.{◌≡◌, ℕ, ◌≤◌, [], ◌∷◌, Err, IfOk, IfErr, OnOk};
 ghost use Rattle.htss_defs.specs.declared.history.SearchError.{SearchError};
 ghost use Rattle.htss_defs.specs.HitLists.{no_hits};
-ghost use Rattle.htss_defs.specs.Reply.{found, over_budget};
+ghost use Rattle.htss_defs.specs.Reply.{IsReply, found, over_budget};
 ghost use Rattle.reg_model.specs.Searches.{Counts};
 ghost use Rattle.board_core.specs.declared.entry.Entry.TheVariants.{Answered};
 ghost use Rattle.board_core.specs.declared.entry.Reply.TheVariants.{Hits, OverBudget};
 ghost use Rattle.board_core.specs.After.{after_answer};
 ghost use Rattle.board_core.specs.Steps.{AreTrue};
 ghost use Rattle.board.specs.Seated.{IsOf, with_account};
-ghost use Rattle.searcher.specs.Searched.{IsSearched, CountsRows};
+ghost use Rattle.searcher.specs.Searched.{IsSearched, LoadsOnce, SaysOfRows};
 ghost use Rattle.searcher.specs.Walking.{Reads, Replies, AreFound, Whatever};
 
 use crate::live::load_live;
@@ -84,6 +84,7 @@ fn fill(
     ensures of { IsOf board.now caller.new }
     ensures stock { caller.new.stock ≡ caller.old.stock }
     ensures reads { Reads caller.old.account caller.new.account }
+    ensures once { LoadsOnce caller.old.account caller.new.account front }
     ensures found { OnOk result (AreFound board.now.shape caller.new.account query.now budget front hits.new) }
     ensures over { (at : ℕ) → result ≡ Err (SearchError.OverBudget at) → (at ≡ front) × Replies board.now.shape caller.new.account query.now budget front over_budget }
 {
@@ -107,7 +108,8 @@ fn fill(
 /// Gives the hits of the query among the records that are live at the front, which it loads, by rising number, each with the least
 /// embedding, how many records were screened, and how many atoms all live records have. It answers the front. It is over budget only
 /// where the work of this search exceeds the budget, and always where the screened records have more atoms than that. After an error
-/// the list is empty. It costs a load of each log word, of the words of each live record, and the search of the screened records.
+/// the list is empty. It loads each log word at most once, and the words of each live record once (`once` of `IsSearched`); beside that
+/// it costs the search of the screened records. The answer is true of every board that has what the caller has loaded by then.
 pub fn search(
     alloc: Global,
     board: &Board,
@@ -123,9 +125,11 @@ pub fn search(
     ensures found { IfOk result (λ f. (caller.old.account.log.seen ≤ f)
         × IsSearched caller.old.account caller.new.account f (Answered query.now budget f (Hits hits.new.hits) ∷ [])) }
     ensures records { IfOk result (λ f. Whatever board.now.shape caller.new.account f (λ h. Counts query.now h hits.new.records)) }
-    ensures rows { IfOk result (λ f. Whatever board.now.shape caller.new.account f (λ h. CountsRows h hits.new.rows)) }
+    ensures rows { IfOk result (λ f. SaysOfRows board.now.shape caller.new.account f hits.new.rows) }
+    ensures reply { IfOk result (λ f. Whatever board.now.shape caller.new.account f (λ h. IsReply query.now budget h (found hits.new.hits))) }
     ensures over { (at : ℕ) → result ≡ Err (SearchError.OverBudget at) → (caller.old.account.log.seen ≤ at)
-        × IsSearched caller.old.account caller.new.account at (Answered query.now budget at OverBudget ∷ []) }
+        × IsSearched caller.old.account caller.new.account at (Answered query.now budget at OverBudget ∷ [])
+        × Whatever board.now.shape caller.new.account at (λ h. IsReply query.now budget h over_budget) }
     ensures memory { result ≡ Err SearchError.OutOfMemory → (f : ℕ) × IsSearched caller.old.account caller.new.account f [] }
     ensures empty { IfErr result (λ e. hits.new ≡ no_hits) }
 {

@@ -1,10 +1,11 @@
 // All words of a block are loaded, the marks excepted.
-ghost use Rattle.std.specs.Prelude.{◌≡◌, ◌<◌, ◌≤◌, ◌+◌, length, slice_index};
+ghost use Rattle.std.specs.Prelude.{◌≡◌, ◌<◌, ◌≤◌, ◌+◌, ◌-◌, [], ◌∷◌, length, slice_index};
 ghost use Rattle.board_core.specs.Words.{total_of};
 ghost use Rattle.board_core.specs.Blocks.{block_size};
 ghost use Rattle.board_core.specs.Loaded.{KnowsBlock, KnowsHead, IsInTable, HasBlock};
 ghost use Rattle.board_core.specs.Steps.{MayBeSome};
 ghost use Rattle.board.specs.Seated.{IsOf};
+ghost use Rattle.searcher.specs.Searched.{Loads};
 ghost use Rattle.searcher.specs.Walking.{Reads, HasWord};
 
 use crate::sizes::{bonds_at, codes_at, size_of};
@@ -21,6 +22,7 @@ fn load_word(board: &Board, caller: &mut Caller, block: u64, head: u64, index: u
     ensures reads { Reads caller.old.account caller.new.account }
     ensures may { MayBeSome board.now.shape caller.new.account }
     ensures word { HasWord caller.new.account block head index result }
+    ensures once { Loads caller.old.account caller.new.account 0 0 1 [] }
 {
     let codes = codes_at(head);
     if index < codes || bonds_at(head) <= index {
@@ -45,6 +47,8 @@ pub(crate) fn load_block(board: &Board, caller: &mut Caller, block: u64, words: 
     ensures size { length words.new ≡ 7200 }
     ensures whole { block_size (slice_index words.new 0) ≤ length words.new }
     ensures words { HasBlock board.now.shape caller.new.account block (slice_index words.new) }
+    ensures once { Loads caller.old.account caller.new.account 0 0 (block_size (slice_index words.new 0) - 3)
+        (record { place = block; word = slice_index words.new 0 } ∷ []) }
 {
     let head = load_head(board, caller, block);
     words[0] = head;

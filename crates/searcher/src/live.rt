@@ -1,6 +1,7 @@
 // The record of a number is read, where it is live at the front.
-ghost use Rattle.std.specs.Prelude.{◌≡◌, ◌<◌, ◌≤◌, length, IfSome, IfOk, None, Ok};
+ghost use Rattle.std.specs.Prelude.{◌≡◌, ℕ, ◌<◌, ◌≤◌, [], length, IfSome, IfOk, None, Ok};
 ghost use Rattle.board.specs.Seated.{IsOf};
+ghost use Rattle.searcher.specs.Searched.{Loads, LoadsOnce};
 ghost use Rattle.searcher.specs.Walking.{Reads, IsOpenBlock, IsReadLive, NotLive, Whatever};
 
 use crate::blocks::load_block;
@@ -26,6 +27,7 @@ fn open_block(board: &Board, caller: &mut Caller, front: u32, number: u32) -> Op
     ensures reads { Reads caller.old.account caller.new.account }
     ensures block { IfSome result (IsOpenBlock board.now.shape caller.new.account front number) }
     ensures none { result ≡ None → Whatever board.now.shape caller.new.account front (NotLive number) }
+    ensures once { (marks : ℕ) × (marks ≤ 1) × Loads caller.old.account caller.new.account 1 marks 0 [] }
 {
     let word = load_log_word(board, caller, number);
     if word >> 48 == 2 {
@@ -59,6 +61,7 @@ pub(crate) fn load_live(
     ensures size { length words.new ≡ 7200 }
     ensures live { IfOk result (λ r. IfSome r (λ one. IsReadLive board.now.shape caller.new.account front number one.name one.mol)) }
     ensures none { result ≡ Ok None → Whatever board.now.shape caller.new.account front (NotLive number) }
+    ensures once { LoadsOnce caller.old.account caller.new.account 1 }
 {
     let Some(block) = open_block(board, caller, front, number) else {
         return Ok(None);

@@ -9,6 +9,7 @@ use Rattle.board_core.proofs.BlockCauses.{seen_within}
 use Rattle.searcher.specs.declared.live.Live.{Live}
 use Rattle.searcher.specs.Walking.{IsReadLive}
 use Rattle.searcher.proofs.Read.{reads_same, reads_trans}
+use Rattle.searcher.proofs.Once.{once_none, once_both, once_fewer}
 use Rattle.searcher.proofs.Walks.{fills, walked_none, walked_passed, walked_more, walked_found, seen_still, some_read, none_read}
 use Rattle.searcher.proofs.at_front.fill.Goals.{in-Some+in_ok-take, in_default-read}
 use Rattle.searcher.proofs.at_front.fill.Goals as goal
@@ -18,6 +19,7 @@ loop-index-init c = record {
   of = c.requires.fits;
   stock = refl;
   reads = reads_same c.args.caller.now.account;
+  once = once_none c.args.caller.now.account;
   size = refl;
   walked = walked_none c.args.board.now.shape c.args.caller.now.account c.args.query.now c.args.front c.args.budget c.new-search.result.matcher c.new-search.result.front c.new-search.result.left c.new-search.result.records 0 c.args.hits.now
       c.new-search.ensures.asked c.new-search.ensures.front c.new-search.ensures.left c.new-search.ensures.records refl (ap (λ (h : HitsKept). h.hits) c.requires.empty);
@@ -53,6 +55,7 @@ loop-index-preserved c =
       of = c.load_live.ensures.of;
       stock = c.load_live.ensures.stock ∙ c.loop-index.invariant.stock;
       reads = reads_trans c.args.caller.now.account a b c.loop-index.invariant.reads c.load_live.ensures.reads;
+      once = once_both c.args.caller.now.account a b c.loop-index.index 1 c.loop-index.invariant.once c.load_live.ensures.once;
       size = c.load_live.ensures.size;
       walked = elim c.match-read.branch [
         | in-Some+in_ok-take w ↦ rw (w.hits-is, w.search-is, w.rows-is)
@@ -72,3 +75,23 @@ returns-clause-found c =
     let seen : c.loop-index.caller.account.log.seen ≡ c.args.front = seen_still c.args.caller.now.account c.loop-index.caller.account c.args.front c.loop-index.invariant.reads c.requires.seen in
     walked_found c.args.board.now.shape c.loop-index.caller.account c.args.query.now c.args.front c.args.budget c.loop-index.index s.matcher s.front s.left s.records c.loop-index.rows c.loop-index.hits c.set_counts.new.self
     c.loop-index.invariant.walked (omega (arith, c.loop-index.auto.index-end, c.loop-index-test.false)) (omega arith) (rw (sym c.records.ensures) c.set_counts.ensures)
+
+-- the number that was read last is one of those up to the front
+pub returns-in_default-clause-once : goal.returns-in_default-clause-once
+returns-in_default-clause-once c =
+    let more = c.loop-index-test.true in
+    once_fewer c.args.caller.now.account c.load_live.new.caller.account (c.loop-index.index + 1) c.args.front (omega (arith, more))
+    (once_both c.args.caller.now.account c.loop-index.caller.account c.load_live.new.caller.account c.loop-index.index 1 c.loop-index.invariant.once c.load_live.ensures.once)
+
+pub returns-in_err-take-clause-once : goal.returns-in_err-take-clause-once
+returns-in_err-take-clause-once c =
+    let more = c.loop-index-test.true in
+    once_fewer c.args.caller.now.account c.load_live.new.caller.account (c.loop-index.index + 1) c.args.front (omega (arith, more))
+    (once_both c.args.caller.now.account c.loop-index.caller.account c.load_live.new.caller.account c.loop-index.index 1 c.loop-index.invariant.once c.load_live.ensures.once)
+
+pub returns-clause-once : goal.returns-clause-once
+returns-clause-once c =
+    once_fewer c.args.caller.now.account c.loop-index.caller.account c.loop-index.index c.args.front (omega (arith, c.loop-index.auto.index-end)) c.loop-index.invariant.once
+
+pub returns-in_err-take-clause-reads : goal.returns-in_err-take-clause-reads
+returns-in_err-take-clause-reads c = reads_trans c.args.caller.now.account c.loop-index.caller.account c.load_live.new.caller.account c.loop-index.invariant.reads c.load_live.ensures.reads

@@ -1,5 +1,6 @@
 use Rattle.std.proofs.Common.{◌≡◌, length}
 use Rattle.board.specs.Seated.{IsOf}
+use Rattle.searcher.specs.Searched.{LoadsOnce}
 use Rattle.searcher.specs.Walking.{Reads}
 use Rattle.searcher.proofs.Walks.{Walked}
 use Rattle.searcher.proofs.at_front.fill.Given as goal
@@ -9,6 +10,7 @@ invariant-loop-index l = record {
   of : IsOf l.board l.caller;
   stock : l.caller.stock ≡ l.fn.caller.stock;
   reads : Reads l.fn.caller.account l.caller.account;
+  once : LoadsOnce l.fn.caller.account l.caller.account l.index;
   size : length l.words ≡ 7200;
   walked : Walked l.board.shape l.caller.account l.query l.front l.budget l.index l.search.matcher l.search.front l.search.left l.search.records l.rows l.hits;
 }

@@ -1,5 +1,6 @@
 use Rattle.std.proofs.Common.{ℕ, ◌<◌, ◌≤◌, inl, inr, refl, subst}
 use Rattle.searcher.proofs.Read.{reads_fact, reads_code}
+use Rattle.searcher.proofs.Once.{loads_fact, loads_code}
 use Rattle.searcher.proofs.Block.{fact_word, code_word}
 use Rattle.searcher.proofs.blocks.load_word.Goals.{then-index-codes-via-then-index-codes, then-index-codes-via-else-index-codes+then-bonds_at-index}
 use Rattle.searcher.proofs.blocks.load_word.Goals as goal
@@ -18,3 +19,9 @@ returns-clause-reads c = reads_code c.args.caller.now c.load_code.new.caller _ _
 
 pub returns-clause-word : goal.returns-clause-word
 returns-clause-word c = code_word c.args.caller.now c.load_code.new.caller c.args.block c.args.head c.codes_at-codes.result c.args.index _ _ c.load_code.result c.load_code.ensures.after c.codes_at-codes.ensures.value c.if-index-codes.false (subst (λ (z : ℕ). c.args.index < z) c.bonds_at.ensures.value c.if-bonds_at-index.false) refl refl
+
+pub returns-then-index-codes-clause-once : goal.returns-then-index-codes-clause-once
+returns-then-index-codes-clause-once c = loads_fact c.args.caller.now c.load_fact.new.caller _ _ c.load_fact.ensures.after
+
+pub returns-clause-once : goal.returns-clause-once
+returns-clause-once c = loads_code c.args.caller.now c.load_code.new.caller _ _ _ c.load_code.ensures.after

@@ -1,6 +1,7 @@
-use Rattle.std.proofs.Common.{inl, inr, ◌∙◌, ap, arith}
+use Rattle.std.proofs.Common.{inl, inr, ◌∙◌, [], ap, arith}
 use Rattle.board_core.specs.declared.log.LogAccount.{LogAccount}
 use Rattle.searcher.proofs.Read.{reads_shown, reads_mark, reads_trans}
+use Rattle.searcher.proofs.Once.{loads_shown, loads_mark, loads_both}
 use Rattle.searcher.proofs.Living.{withdrawal_none, publication_loaded, ended_none, still_open}
 use Rattle.searcher.proofs.live.open_block.Goals.{else-mark-gt0-via-then-mark-gt0+else-mark-front, else-mark-gt0-via-else-mark-gt0}
 use Rattle.searcher.proofs.live.open_block.Goals as goal
@@ -44,3 +45,24 @@ returns-clause-block c = let within = c.requires.number.1 in let front = c.requi
       | else-mark-gt0-via-then-mark-gt0+else-mark-front w ↦ inr w.if-mark-front.false
       | else-mark-gt0-via-else-mark-gt0 w ↦ (let none = w.if-mark-gt0.false in inl (omega arith))
     ])
+
+pub returns-then-word-eq2-clause-once : goal.returns-then-word-eq2-clause-once
+returns-then-word-eq2-clause-once c = (0, omega arith, loads_shown c.args.caller.now c.load_log_word-word.new.caller _ _ c.load_log_word-word.ensures.after)
+
+pub returns-then-mark-front-clause-once : goal.returns-then-mark-front-clause-once
+returns-then-mark-front-clause-once c = (
+  1,
+  omega arith,
+  loads_both c.args.caller.now.account c.load_log_word-word.new.caller.account c.load_mark-mark.new.caller.account 1 0 0 1 0 0 [] []
+      (loads_shown c.args.caller.now c.load_log_word-word.new.caller _ _ c.load_log_word-word.ensures.after)
+      (loads_mark c.load_log_word-word.new.caller c.load_mark-mark.new.caller _ _ c.load_mark-mark.ensures),
+)
+
+pub returns-clause-once : goal.returns-clause-once
+returns-clause-once c = (
+  1,
+  omega arith,
+  loads_both c.args.caller.now.account c.load_log_word-word.new.caller.account c.load_mark-mark.new.caller.account 1 0 0 1 0 0 [] []
+      (loads_shown c.args.caller.now c.load_log_word-word.new.caller _ _ c.load_log_word-word.ensures.after)
+      (loads_mark c.load_log_word-word.new.caller c.load_mark-mark.new.caller _ _ c.load_mark-mark.ensures),
+)
