@@ -11,7 +11,7 @@ append_publication-requires-clause-small c =
     let small : total_of c.args.board.now.shape < 2 ^ 40 = total_small c.args.board.now.shape c.shape.ensures.limits in omega arith
 
 pub returns-then-front-shape-clause-others : goal.returns-then-front-shape-clause-others
-returns-then-front-shape-clause-others c = others_freed _ _ _ (LogFull c.args.caller.now.account.log.seen ∷ []) c.free_full.ensures
+returns-then-front-shape-clause-others c = others_freed _ _ _ (LogFull c.args.caller.now.account.log.seen ∷ []) c.free_full.ensures.after
 
 pub returns-clause-others : goal.returns-clause-others
 returns-clause-others c = others_published _ _ _ _ c.args.staged c.append_publication.ensures
