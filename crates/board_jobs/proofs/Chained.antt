@@ -1,7 +1,7 @@
 -- Answers of one caller, one after the other.
-use Rattle.std.proofs.Common.{◌≡◌, Result, Ok, Err, OnErr, IfErr, ℕ, ◌<◌, ◌≤◌, List, [], ◌∷◌, ◌++◌, length, map, sym, ap, subst, ◌∙◌, refl, arith, All}
+use Rattle.std.proofs.Common.{◌≡◌, Result, Ok, Err, OnErr, IfErr, Bool, true, cond, ℕ, ◌<◌, ◌≤◌, List, [], ◌∷◌, ◌++◌, length, map, sym, ap, subst, ◌∙◌, refl, arith, All}
 use Rattle.std.proofs.lemmas.List.{map-append}
-use Rattle.std.proofs.lemmas.List.Elements.{All-nil, All-cons}
+use Rattle.std.proofs.lemmas.List.Elements.{All-nil, All-cons, filter-append}
 use Rattle.htss_defs.specs.declared.shape.Shape.{Shape}
 use Rattle.report_rules.specs.Answers.{Answer}
 use Rattle.report_rules.specs.Dealing.{Caller, loader, searcher}
@@ -14,9 +14,11 @@ use Rattle.board_core.specs.declared.entry.Noted.{Noted}
 use Rattle.board_core.specs.declared.log.Holding.TheVariants.{Away}
 use Rattle.board_core.specs.Loaded.{Grows}
 use Rattle.board_core.specs.After.{noted}
+use Rattle.board_core.specs.Answers.{is_answer, answers_in}
+use Rattle.board_core.specs.declared.loads.Loads.{Loads}
 use Rattle.board_core.proofs.Grown.{grows_same, grows_trans}
 use Rattle.board.specs.Seated.{Place, Seated, IsNew, IsLoader, number_in, with_account}
-use Rattle.board_jobs.specs.Telling.{entries_in}
+use Rattle.board_jobs.specs.Telling.{entries_in, tells}
 use Rattle.board_jobs.specs.Answering.{who_of, IsAnswered, AreAnswered}
 use Rattle.board_core.specs.declared.pool.PoolAccount.{PoolAccount}
 use Rattle.board_core.specs.MarkRule.{IsAmong}
@@ -121,9 +123,23 @@ all_one F x is = All-cons F x [] is (All-nil F)
 pub all_none : (F : ℕ → Type 0) → All F []
 all_none F = All-nil F
 
--- one entry more
-pub told_one : (a b : Account) (e : Entry) (at : Account) → b.entries ≡ a.entries ++ noted at.loads (e ∷ []) → entries_in b ≡ entries_in a ++ e ∷ []
-told_one a b e at more = ap (λ (ns : List Noted). map (λ n. n.entry) ns) more ∙ map-append (λ (n : Noted). n.entry) a.entries (noted at.loads (e ∷ []))
+-- one entry more, with the lengths that the lists have
+pub told_one : (a b : Account) (e : Entry) → is_answer e ≡ true → b.entries ≡ a.entries ++ noted b.loads (e ∷ []) → answers_in b.entries ≡ answers_in a.entries ++ noted b.loads (e ∷ [])
+told_one a b e answers more =
+    ap answers_in more
+    ∙ (filter-append (λ (n : Noted). is_answer n.entry) a.entries (noted b.loads (e ∷ []))
+    ∙ ap (λ (t : Bool). answers_in a.entries ++ cond t (noted b.loads (e ∷ [])) []) answers)
+
+entries_noted : (l : Loads) (es : List Entry) → map (λ (n : Noted). n.entry) (noted l es) ≡ es
+entries_noted l [] = refl
+entries_noted l (e ∷ es) = ap (λ rest. e ∷ rest) (entries_noted l es)
+
+-- the entries that an answer adds are those that it prints
+pub answered_entries : (k : Shape) (c : Caller) (a b : Account) (answer : Answer) → IsAnswered k c a b answer → entries_in b ≡ entries_in a ++ tells c answer
+answered_entries k c a b answer is =
+    ap (map (λ (n : Noted). n.entry)) is.noted_are
+    ∙ (map-append (λ (n : Noted). n.entry) (answers_in a.entries) (noted b.loads (tells c answer))
+    ∙ ap (λ rest. entries_in a ++ rest) (entries_noted b.loads (tells c answer)))
 
 -- a loader stays one
 pub loader_stays : (c d : Seated) → d.account.who ≡ c.account.who → IsLoader c → IsLoader d

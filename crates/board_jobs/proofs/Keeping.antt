@@ -19,6 +19,7 @@ use Rattle.board_core.specs.Truths.{IsTrueLog}
 use Rattle.board_jobs.specs.Telling.{entries_in, tells}
 use Rattle.board_jobs.specs.Answering.{IsAnswered}
 use Rattle.board_jobs.specs.Rows.{HasItsRows}
+use Rattle.board_jobs.proofs.Chained.{answered_entries}
 use Rattle.board_jobs.proofs.Places.{each_behind}
 use Rattle.board_jobs.proofs.Marks.{IsOwn, Before, new_is, refusing_is, search_is}
 use Rattle.board_jobs.proofs.Stand.{Stands}
@@ -31,7 +32,7 @@ MayOwn (searcher number) answer = own_number answer ≡ []
 module _ (k : Shape) (p : Parts) where
   -- what an answer tells is true
   pub told_true : (caller : Caller) (a b : Account) (answer : Answer) → IsAnswered k caller a b answer → Stands k p b → Each (IsTrueLog k (history_of k p)) (tells caller answer)
-  told_true caller a b answer is s = each_behind (IsTrueLog k (history_of k p)) (entries_in a) (tells caller answer) (subst (Each (IsTrueLog k (history_of k p))) is.entries s.entries)
+  told_true caller a b answer is s = each_behind (IsTrueLog k (history_of k p)) (entries_in a) (tells caller answer) (subst (Each (IsTrueLog k (history_of k p))) (answered_entries k caller a b answer is) s.entries)
 
   -- its own number is that of an event of its caller
   owns_told : (number : ℕ) (answer : Answer) → Each (IsTrueLog k (history_of k p)) (tells (loader number) answer) → All (IsOwn (history_of k p) (loader number)) (own_number answer)
@@ -74,9 +75,9 @@ module _ (k : Shape) (p : Parts) where
   )
   answer_keeps earlier line a b (to_record (taken one (no_room left need))) is s before told owns = (is.says.0, is.says.1, ap (λ n. left + n) before.room ∙ is.says.2)
   answer_keeps earlier line a b (to_record (taken one no_page)) is s before told owns = tt
-  answer_keeps earlier line a b (to_record (taken one (chain_full pages))) is s before told owns = is.says
+  answer_keeps earlier line a b (to_record (taken one (chain_full pages))) is s before told owns = is.says.0
   answer_keeps earlier line a b (to_record (taken one (log_full front))) is s before told owns =
-      (is.says, (told 0 (entry.LogFull front) refl).0, refusing_is (history_of k p) earlier line a front before (first_of (λ n. a.log.seen ≤ n) front is.fronts))
+      (is.says.0, (told 0 (entry.LogFull front) refl).0, refusing_is (history_of k p) earlier line a front before (first_of (λ n. a.log.seen ≤ n) front is.fronts))
   answer_keeps earlier line a b (to_withdrawal number (At event)) is s before told owns = (
     told 0 (entry.Withdrawn event (Withdraw (number_of line.caller) number)) refl,
     new_is (history_of k p) earlier line a event before (first_of (λ n. a.log.seen < n) event is.fresh) (first_of (IsOwn (history_of k p) line.caller) event owns),

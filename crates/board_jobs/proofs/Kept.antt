@@ -9,7 +9,8 @@ use native.Mathlib.Decide.{ℕ_discrete}
 use lib.ListN.{get_elem?}
 use Rattle.htss_defs.specs.declared.history.Event.{Event}
 use Rattle.htss_defs.specs.declared.shape.Shape.{Shape}
-use Rattle.report_rules.specs.Answers.{own_number}
+use Rattle.report_rules.specs.Answers.{Answer, to_record, to_search, to_withdrawal, own_number}
+use Rattle.report_rules.specs.Answers.{not_accepted, taken, published, no_room, no_page, chain_full, log_full}
 use Rattle.report_rules.specs.Dealing.{Caller}
 use Rattle.report_rules.specs.Rules.{Line, marks, used_by, words_used, KeepsRule}
 use Rattle.board_core.specs.declared.account.Account.{Account}
@@ -18,13 +19,13 @@ use Rattle.board_core.specs.Words.{Parts}
 use Rattle.board_core.specs.Histories.{history_of}
 use Rattle.board_core.specs.Truths.{IsTrueLog}
 use Rattle.board_core.proofs.Lists.{each_kept, inside}
-use Rattle.board_jobs.specs.Answering.{IsAnswered}
-use Rattle.board_jobs.specs.Apart.{IsApart, AreApart}
+use Rattle.board_jobs.specs.Answering.{IsAnswered, Says}
 use Rattle.board_jobs.specs.Groups.{place_of, with_seen, HaveMet, AreNew}
+use Rattle.board_jobs.specs.Rooms.{HadRoom, HaveHadRoom}
 use Rattle.board_jobs.specs.Rows.{HasItsRows, HaveTheirRows}
 use Rattle.board_jobs.specs.Telling.{tells}
 use Rattle.board_jobs.proofs.Places.{at_map, at_set, map_back, set_else, set_here}
-use Rattle.board_jobs.proofs.Marks.{AreSeen, IsOwn, Before, all_later, apart_is}
+use Rattle.board_jobs.proofs.Marks.{AreSeen, IsOwn, Before, all_later}
 use Rattle.board_jobs.proofs.Stand.{Stands}
 use Rattle.board_jobs.proofs.Keeping.{MayOwn, told_true, owns_are, rows_are, answer_keeps}
 use Rattle.board_jobs.proofs.Fits.{IsCaller, one_place, same_caller, other_caller}
@@ -35,13 +36,13 @@ pub record HasSeen (k : Shape) (accounts : List Account) (line : Line) : Type 0 
   pub there : get_elem? accounts (place_of k line.caller) ≡ some by
   pub seen : AreSeen by.log.seen line
 
--- each line keeps its rule; none is of a group after this one, and none has a mark of a later group's event; searches have their rows; callers have seen the
+-- each line keeps its rule, and what it used had room; none is of a group after this one; searches have their rows; callers have seen the
 -- marks of their lines, and all have seen those of groups before this one; own numbers are of own events; and the words that a caller's
 -- lines have used are those in use
 pub record Kept (k : Shape) (h : List Event) (group : ℕ) (accounts : List Account) (lines : List Line) : Type 0 where
   pub rules : (earlier later : List Line) (line : Line) → lines ≡ earlier ++ line ∷ later → KeepsRule k h earlier line
   pub until : All (λ line. line.group ≤ group) lines
-  pub apart : AreApart lines
+  pub rooms : HaveHadRoom k lines
   pub rows : HaveTheirRows h lines
   pub own : All (HasSeen k accounts) lines
   pub old : All (λ line. line.group < group → Each (λ a. AreSeen a.log.seen line) accounts) lines
@@ -80,13 +81,25 @@ used_own caller line same = ap (λ c. used_by c line) same ∙ ap (λ (b : Bool)
 used_none : (caller : Caller) (line : Line) → ¬ (line.caller ≡ caller) → used_by caller line ≡ 0
 used_none caller line other = ap (λ (b : Bool). cond b (words_used line.answer) 0) (other_caller line.caller caller other)
 
+-- ---- a record that was stored had room
+
+says_room : (k : Shape) (used : ℕ) (b : Account) (answer : Answer) → Says k used b answer → 0 < words_used answer → used + words_used answer ≤ k.room
+says_room k used b (to_record (not_accepted at code)) says uses = absurd (omega arith)
+says_room k used b (to_record (taken one (published number))) says uses = says
+says_room k used b (to_record (taken one (no_room left need))) says uses = absurd (omega arith)
+says_room k used b (to_record (taken one no_page)) says uses = says
+says_room k used b (to_record (taken one (chain_full pages))) says uses = says.1
+says_room k used b (to_record (taken one (log_full front))) says uses = says.1
+says_room k used b (to_withdrawal number answer) says uses = absurd (omega arith)
+says_room k used b (to_search answer) says uses = absurd (omega arith)
+
 -- ---- no lines yet
 
 pub kept_new : (k : Shape) (h : List Event) (accounts : List Account) → AreNew k accounts → Kept k h 1 accounts []
 kept_new k h accounts new = record {
   rules = λ earlier later line none. absurd (no_tail earlier later line none);
   until = All-nil (λ line. line.group ≤ 1);
-  apart = All-nil (λ one. All (IsApart one) []);
+  rooms = λ earlier later line none. absurd (no_tail earlier later line none);
   rows = All-nil (λ line. HasItsRows h line.answer);
   own = All-nil (HasSeen k accounts);
   old = All-nil (λ line. line.group < 1 → Each (λ a. AreSeen a.log.seen line) accounts);
@@ -149,13 +162,8 @@ module _ (k : Shape) (p : Parts) (group : ℕ) (accounts : List Account) (lines 
         omega (arith, sum, none, was))
         (at_set accounts (place_of k line.caller) (place_of k caller) b x there)
 
-    apart_more : All (λ number. a.log.seen < number) (own_number line.answer) → AreApart (lines ++ line ∷ [])
-    apart_more fresh =
-        let before : All (λ one. IsApart one line) lines = apart_is (history_of k p) lines line a before_line fresh in
-        let behind : All (IsApart line) lines = λ i d within late. (let until = kept.until i d within in absurd (omega (arith, late, here, until))) in
-        All-push (λ one. All (IsApart one) (lines ++ line ∷ [])) lines line
-        (λ i d within. All-push (IsApart (get_or lines i d)) lines line (kept.apart i d within) (before i d within))
-        (All-push (IsApart line) lines line behind (λ late. absurd (omega (arith, late))))
+    had_room : IsAnswered k line.caller a b line.answer → HadRoom k lines line
+    had_room answered uses = let before = before_line.room in let room = says_room k (length a.room.used) b line.answer answered.says uses in omega (arith, before, room)
 
     pub kept_answer : IsAnswered k line.caller a b line.answer → Stands k p b → MayOwn line.caller line.answer → Kept k (history_of k p) group (set accounts (place_of k line.caller) b) (lines ++ line ∷ [])
     kept_answer answered stands may =
@@ -168,7 +176,10 @@ module _ (k : Shape) (p : Parts) (group : ℕ) (accounts : List Account) (lines 
               (λ (t : (rest : List Line) × (lines ≡ earlier ++ one ∷ rest)). kept.rules earlier t.0 one t.1)
               (split_last lines earlier later line one split);
           until = All-push (λ one. one.group ≤ group) lines line kept.until (omega (arith, here));
-          apart = apart_more answered.fresh;
+          rooms = λ earlier later one split. ⊎_elim
+              (λ (t : (lines ≡ earlier) × (line ≡ one)). subst (λ e. HadRoom k e one) t.0 (subst (λ x. HadRoom k lines x) t.1 (had_room answered)))
+              (λ (t : (rest : List Line) × (lines ≡ earlier ++ one ∷ rest)). kept.rooms earlier t.0 one t.1)
+              (split_last lines earlier later line one split);
           rows = All-push (λ one. HasItsRows (history_of k p) one.answer) lines line kept.rows (rows_are k p line.caller a b line.answer answered stands);
           own = All-push (HasSeen k left) lines line (All-weaker (HasSeen k accounts) (HasSeen k left) (seen_more more) lines kept.own) (record { by = b; there = put; seen = answered.marks });
           old = All-push (λ one. one.group < group → Each (λ x. AreSeen x.log.seen one) left) lines line
@@ -191,7 +202,7 @@ module _ (k : Shape) (p : Parts) (group : ℕ) (accounts : List Account) (lines 
   kept_seen front most = record {
     rules = kept.rules;
     until = All-weaker (λ one. one.group ≤ group) (λ one. one.group ≤ group + 1) (λ one within. omega (arith, within)) lines kept.until;
-    apart = kept.apart;
+    rooms = kept.rooms;
     rows = kept.rows;
     own = All-weaker (HasSeen k accounts) (HasSeen k (map (with_seen front) accounts)) (met_own front most) lines kept.own;
     old = λ i d within early j x there.

@@ -10,7 +10,7 @@ use Rattle.report_text.specs.declared.report.LoadLine.{LoadLine}
 use Rattle.report_rules.specs.Answers.{RecordAnswer, not_accepted, to_record, outcome_of, record_line, record_lines}
 use Rattle.board_core.specs.declared.account.Account.{Account}
 use Rattle.board_core.proofs.Grown.{grows_same}
-use Rattle.board_jobs.specs.Telling.{entries_in}
+use Rattle.board_core.specs.Answers.{answers_in}
 use Rattle.board_jobs.specs.Answering.{AreAnswered}
 use Rattle.board_jobs.specs.Calls.{Answers, AreLoaded, HaveBegun, IsBegun, IsLoaded}
 use Rattle.board_jobs.proofs.Chained.{all_none, answered_both, answered_one}
@@ -29,7 +29,7 @@ loaded-none k a reader read = record { records = []; read = read; lines_are = re
 pub refused-answers : (k : Shape) (a : Account) (line code : ℕ) → Answers k a a (to_record (not_accepted line code))
 refused-answers k a line code c who = record {
   who = refl;
-  entries = sym (append-nil (entries_in a));
+  noted_are = sym (append-nil (answers_in a.entries));
   seen = omega arith;
   marks = all_none _;
   fresh = all_none _;

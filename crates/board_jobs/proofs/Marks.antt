@@ -10,7 +10,6 @@ use Rattle.report_rules.specs.Dealing.{Caller, loader, searcher}
 use Rattle.report_rules.specs.Rules.{Line, marks, used_by, IsNew, IsRefusingFront, IsSearchFront}
 use Rattle.board_core.specs.declared.account.Account.{Account}
 use Rattle.board_core.specs.Histories.{caller_of}
-use Rattle.board_jobs.specs.Apart.{IsApart}
 
 module _ {A : Type 0} (P : A → Type 0) where
   pub all_left : (xs ys : List A) → All P (xs ++ ys) → All P xs
@@ -80,7 +79,7 @@ one_caller h (searcher a) b m n same own other = absurd own
 pub new_is : (h : List Event) (earlier : List Line) (line : Line) (a : Account) (number : ℕ) → Before h earlier line a → a.log.seen < number → IsOwn h line.caller number → IsNew earlier line number
 new_is h earlier line a number before fresh own = record {
   loader = λ i d within same. all_below a.log.seen number (marks (get_or earlier i d)) fresh (before.own i d within same);
-  groups = λ i d within early. all_below a.log.seen number (numbers_of (get_or earlier i d).answer) fresh (numbers_seen a.log.seen (get_or earlier i d) (before.old i d within early));
+  groups = λ i d within early. all_below a.log.seen number (marks (get_or earlier i d)) fresh (before.old i d within early);
   once = λ i d within j x inside same.
       let one : Line = get_or earlier i d in
       let m : ℕ = get_or (own_number one.answer) j x in
@@ -88,14 +87,6 @@ new_is h earlier line a number before fresh own = record {
       let seen : m ≤ a.log.seen = own_seen a.log.seen one (before.own i d within caller) j x inside in
       absurd (omega (arith, same, seen, fresh));
 }
-
--- what lines of earlier groups carry is below the events that this one adds
-pub apart_is : (h : List Event) (earlier : List Line) (line : Line) (a : Account) → Before h earlier line a → All (λ number. a.log.seen < number) (own_number line.answer) → All (λ one. IsApart one line) earlier
-apart_is h earlier line a before fresh =
-    λ i d within early.
-    let one : Line = get_or earlier i d in
-    All-weaker (λ number. a.log.seen < number) (λ number. All (λ mark. mark < number) (marks one))
-    (λ number less. all_below a.log.seen number (marks one) less (before.old i d within early)) (own_number line.answer) fresh
 
 pub refusing_is : (h : List Event) (earlier : List Line) (line : Line) (a : Account) (front : ℕ) → Before h earlier line a → a.log.seen ≤ front → IsRefusingFront earlier line front
 refusing_is h earlier line a front before later = record {

@@ -136,23 +136,17 @@ loader_after k c above within =
     ap (λ b. cond b (Loader (c - 1 + 1)) (Searcher (c - 1 + 1 - k.loaders))) (lt-ltb (c - 1) k.loaders (omega (arith, above, within))) ∙ ap (λ n. Loader n) back
 
 -- each event's number is one of its loader's account
-last_has : (k : Shape) (p : Parts) (last : List Account) → IsEnd k p last → Each Rises last → (n : ℕ) (e : Event) → HasEvent (history_of k p) n e → (i : ℕ) × (a : Account) × (get_elem? last i ≡ some a) × In n (own_in a)
-last_has k p last end rise n e has =
+last_has : (k : Shape) (p : Parts) (last : List Account) → IsEnd k p last → (n : ℕ) (e : Event) → HasEvent (history_of k p) n e → (i : ℕ) × (a : Account) × (get_elem? last i ≡ some a) × In n (own_in a)
+last_has k p last end n e has =
     let by : IsByLoader k e = end.loaders (n - 1) e (by_place (history_of k p) (n - 1) e has.1) in
     let count = end.count in
     let a = there last (caller_of e - 1) (omega (arith, count, by.0, by.1)) in
     let who : a.0.who ≡ Loader (caller_of e) = end.callers (caller_of e - 1) a.0 a.1 ∙ loader_after k (caller_of e) by.0 by.1 in
-    (caller_of e - 1, a.0, a.1, has_all k (history_of k p) (caller_of e) a.0 who (end.stories (caller_of e - 1) a.0 a.1) (rise (caller_of e - 1) a.0 a.1) n e has refl)
+    (caller_of e - 1, a.0, a.1, has_all k (history_of k p) (caller_of e) a.0 who (end.stories (caller_of e - 1) a.0 a.1) n e has refl)
 
 -- the account before it went on
 first_of_two : (k : Shape) (middle last : List Account) → HaveGoneOn k middle last → (i : ℕ) (b : Account) → get_elem? last i ≡ some b → (a : Account) × (get_elem? middle i ≡ some a)
 first_of_two k middle last on i b at = let count = on.count in let lt = inside last i b at in there middle i (omega (arith, count, lt))
-
-gone_rise : (k : Shape) (middle last : List Account) → HaveGoneOn k middle last → Each Rises middle → Each Rises last
-gone_rise k middle last on rise i b at =
-    let a = first_of_two k middle last on i b at in
-    let gone = on.each i a.0 b a.1 at in
-    still_rises k (caller_at k i) a.0 b gone.0 gone.1 (rise i a.0 a.1)
 
 -- ---- the laws
 
@@ -163,7 +157,7 @@ named k files budget groups before middle last front done p new all_done on end 
     let cut : length (take front (history_of k p)) ≡ min front (length (history_of k p)) = length-take front (history_of k p) in
     let was = groups_end k files budget groups before middle front done new all_done in
     let e = event_there (history_of k p) (number - 1) (omega (arith, from, until, cut)) in
-    let found = last_has k p last end (gone_rise k middle last on (λ j a at. (was.0 j a at).0)) number e.0 (from, e.1) in
+    let found = last_has k p last end number e.0 (from, e.1) in
     let a = first_of_two k middle last on found.0 found.1 found.2 in
     let gone = on.each found.0 a.0 found.1 a.1 found.2 in
     let seen : a.0.log.seen ≡ front = was.1 found.0 a.0 a.1 in
@@ -182,7 +176,7 @@ whole k files budget groups before middle last front done p new all_done same en
     let e = event_there (history_of k p) (length (history_of k p) - 1) (omega (arith, past)) in
     let end' = subst (IsEnd k p) same end in
     let rise : Each Rises middle = λ j a at. (was.0 j a at).0 in
-    let found = last_has k p middle end' rise (length (history_of k p)) e.0 (omega (arith, past), e.1) in
+    let found = last_has k p middle end' (length (history_of k p)) e.0 (omega (arith, past), e.1) in
     let seen : found.1.log.seen ≡ front = was.1 found.0 found.1 found.2 in
     let before_seen = not_later 1 (own_in found.1) (found.1.log.seen + 1) (rise found.0 found.1 found.2) (length (history_of k p)) found.3 in
     absurd (omega (arith, past, seen, before_seen)))

@@ -1,8 +1,8 @@
 -- The numbers of the events that an account tells of: what answers add to them, and that the account of a true story has them all.
-use Rattle.std.proofs.Common.{◌≡◌, ◌⊎◌, inl, inr, ⊎_elim, ℕ, suc, ◌+◌, ◌<◌, ◌≤◌, ◌==◌, true, List, [], ◌∷◌, ◌++◌, map, length, refl, sym, ap, subst, ◌∙◌, arith, append_assoc, append-nil, eqb-true}
-use Rattle.std.specs.Prelude.{All}
+use Rattle.std.proofs.Common.{◌≡◌, ◌⊎◌, inl, inr, ⊎_elim, ℕ, zero, suc, ◌+◌, ◌-◌, ◌<◌, ◌≤◌, ◌==◌, Bool, true, false, cond, List, [], ◌∷◌, ◌++◌, map, filter, refl, sym, ap, subst, ◌∙◌, arith, append_assoc, append-nil, eq-eqb}
+use Rattle.std.specs.Prelude.{All, Some, slice_get}
 use Rattle.std.specs.List.{flat_map}
-use Rattle.std.proofs.lemmas.List.Elements.{All-head, All-tail, All-weaker, filter_passes}
+use Rattle.std.proofs.lemmas.Option.{none-some, same_Some}
 use Rattle.htss_defs.specs.declared.shape.Shape.{Shape}
 use Rattle.htss_defs.specs.declared.history.Event.{Event}
 use Rattle.htss_defs.specs.declared.record.NamedMol.{NamedMol}
@@ -19,12 +19,14 @@ use Rattle.board_core.specs.declared.account.Who.TheVariants.{Loader}
 use Rattle.board_core.specs.declared.entry.Entry.{Entry}
 use Rattle.board_core.specs.declared.entry.Entry.TheVariants.{Published, Withdrawn, Answered, Unknown, Gone, LogFull, DataFull, NoPage, ChainFull, Swept}
 use Rattle.board_core.specs.declared.entry.Noted.{Noted}
-use Rattle.board_core.specs.Each.{Each}
-use Rattle.board_core.specs.Histories.{caller_of, events_by}
-use Rattle.board_core.specs.Truths.{IsTrueLog, IsTrueStory, told_by, told_in, own_events}
+use Rattle.board_core.specs.declared.loads.Lengths.{Lengths}
+use Rattle.board_core.specs.Answers.{is_answer, answers_in}
+use Rattle.board_core.specs.Histories.{caller_of, numbered, events_by}
+use Rattle.board_core.specs.Truths.{IsTrueStory, told_by, told_in, own_events}
 use Rattle.board_jobs.specs.Telling.{entries_in, tells, fate_entries, withdrawal_entries, search_entries}
 use Rattle.board_jobs.specs.Answering.{IsAnswered, AreAnswered}
-use Rattle.board_jobs.proofs.Counted.{In, in_cases, RiseTo, rise_append, without_stop, not_sooner, all_counted}
+use Rattle.board_jobs.proofs.Chained.{answered_entries}
+use Rattle.board_jobs.proofs.Counted.{In, in_cases, RiseTo, rise_append, without_stop, not_sooner}
 
 -- the number of the event that an entry tells of
 abbrev pub own_of : Entry → List ℕ
@@ -105,7 +107,7 @@ answer_rises (to_withdrawal number answer) low high le marks fresh = withdrawal_
 answer_rises (to_search answer) low high le marks fresh = omega arith
 
 answered_own : (k : Shape) (caller : Caller) (a b : Account) (answer : Answer) → IsAnswered k caller a b answer → own_in b ≡ own_in a ++ own_number answer
-answered_own k caller a b answer is = ap own_numbers is.entries ∙ (own_numbers-append (entries_in a) (tells caller answer) ∙ ap (λ l. own_in a ++ l) (tells_own caller answer))
+answered_own k caller a b answer is = ap own_numbers (answered_entries k caller a b answer is) ∙ (own_numbers-append (entries_in a) (tells caller answer) ∙ ap (λ l. own_in a ++ l) (tells_own caller answer))
 
 -- ---- answers, one after the other
 
@@ -143,51 +145,48 @@ own_before k caller a b answers t n seen m = ⊎_elim
 
 -- ---- a true story
 
--- there are as many numbers as events that are told
-as_many_by : (x : Entry) (es : List Event) (ns : List ℕ) → length es ≡ length ns → length (told_by x ++ es) ≡ length (own_of x ++ ns)
-as_many_by (Published number event) es ns e = ap suc e
-as_many_by (Withdrawn number event) es ns e = ap suc e
-as_many_by (Answered query budget front reply) es ns e = e
-as_many_by (Unknown number front) es ns e = e
-as_many_by (Gone number at) es ns e = e
-as_many_by (LogFull front) es ns e = e
-as_many_by (DataFull left need) es ns e = e
-as_many_by NoPage es ns e = e
-as_many_by (ChainFull pages) es ns e = e
-as_many_by (Swept need front rows) es ns e = e
+-- the number of a numbered event
+abbrev first_in : ℕ × Event → ℕ
+first_in x = x.0
 
-as_many : (entries : List Noted) → length (told_in entries) ≡ length (own_numbers (map (λ n. n.entry) entries))
-as_many [] = refl
-as_many (x ∷ xs) = as_many_by x.entry (told_in xs) (own_numbers (map (λ n. n.entry) xs)) (as_many xs)
+told_numbers_by : (x : Entry) (at : Lengths) (entries : List Noted) (es : List (ℕ × Event)) → map first_in es ≡ own_numbers (map (λ n. n.entry) entries)
+    → map first_in (told_by x ++ es) ≡ own_numbers (map (λ n. n.entry) (cond (is_answer x) (record { entry = x; at = at } ∷ entries) entries))
+told_numbers_by (Published number event) at entries es e = ap (λ l. number ∷ l) e
+told_numbers_by (Withdrawn number event) at entries es e = ap (λ l. number ∷ l) e
+told_numbers_by (Answered query budget front reply) at entries es e = e
+told_numbers_by (Unknown number front) at entries es e = e
+told_numbers_by (Gone number event) at entries es e = e
+told_numbers_by (LogFull front) at entries es e = e
+told_numbers_by (DataFull left need) at entries es e = e
+told_numbers_by NoPage at entries es e = e
+told_numbers_by (ChainFull pages) at entries es e = e
+told_numbers_by (Swept need front rows) at entries es e = e
 
--- the number is that of an event that has the fact
-abbrev Numbers : List Event → (Event → Type 0) → ℕ → Type 0
-Numbers h F n = (e : Event) × HasEvent h n e × F e
+-- the numbers of an account are those of the events that it tells of
+told_numbers : (entries : List Noted) → map first_in (told_in entries) ≡ own_numbers (map (λ n. n.entry) (answers_in entries))
+told_numbers [] = refl
+told_numbers (x ∷ xs) = told_numbers_by x.entry x.at (answers_in xs) (told_in xs) (told_numbers xs)
 
-told_entry : (k : Shape) (h : List Event) (F : Event → Type 0) (x : Entry) (es : List Event) (ns : List ℕ) → IsTrueLog k h x → All F (told_by x ++ es) → (All F es → (n : ℕ) → In n ns → Numbers h F n) → (n : ℕ) → In n (own_of x ++ ns) → Numbers h F n
-told_entry k h F (Published number event) es ns is all rest n (inl e) = (event, subst (λ m. HasEvent h m event) e is, All-head F event es all)
-told_entry k h F (Published number event) es ns is all rest n (inr m) = rest (All-tail F event es all) n m
-told_entry k h F (Withdrawn number event) es ns is all rest n (inl e) = (event, subst (λ m. HasEvent h m event) e is, All-head F event es all)
-told_entry k h F (Withdrawn number event) es ns is all rest n (inr m) = rest (All-tail F event es all) n m
-told_entry k h F (Answered query budget front reply) es ns is all rest n m = rest all n m
-told_entry k h F (Unknown number front) es ns is all rest n m = rest all n m
-told_entry k h F (Gone number at) es ns is all rest n m = rest all n m
-told_entry k h F (LogFull front) es ns is all rest n m = rest all n m
-told_entry k h F (DataFull left need) es ns is all rest n m = rest all n m
-told_entry k h F NoPage es ns is all rest n m = rest all n m
-told_entry k h F (ChainFull pages) es ns is all rest n m = rest all n m
-told_entry k h F (Swept need front rows) es ns is all rest n m = rest all n m
+abbrev by_loader : ℕ → ℕ → List Event → List (ℕ × Event)
+by_loader c first h = filter (λ x. caller_of x.1 == c) (numbered first h)
 
-told_events : (k : Shape) (h : List Event) (F : Event → Type 0) (entries : List Noted) → Each (λ n. IsTrueLog k h n.entry) entries → All F (told_in entries) → (n : ℕ) → In n (own_numbers (map (λ x. x.entry) entries)) → Numbers h F n
-told_events k h F [] each all n m = absurd m
-told_events k h F (x ∷ xs) each all n m =
-    told_entry k h F x.entry (told_in xs) (own_numbers (map (λ y. y.entry) xs)) (each 0 x refl) all (λ more. told_events k h F xs (λ j. each (suc j)) more) n m
+later_in : (n first c : ℕ) (x : Event) (xs : List Event) (b : Bool) → In n (map first_in (by_loader c (first + 1) xs)) → In n (map first_in (cond b ((first, x) ∷ by_loader c (first + 1) xs) (by_loader c (first + 1) xs)))
+later_in n first c x xs true m = inr m
+later_in n first c x xs false m = m
 
--- a loader's account whose story is true, and whose numbers rise, has the number of each event by the loader
-pub has_all : (k : Shape) (h : List Event) (c : ℕ) (a : Account) → a.who ≡ Loader c → IsTrueStory k h a.who a.entries → Rises a → (n : ℕ) (e : Event) → HasEvent h n e → caller_of e ≡ c → In n (own_in a)
-has_all k h c a who story r =
+-- an event by the loader has its number among them
+has_number : (h : List Event) (c first i : ℕ) (e : Event) → slice_get h i ≡ Some e → caller_of e ≡ c → In (first + i) (map first_in (by_loader c first h))
+has_number [] c first i e at by = absurd (none-some e at)
+has_number (x ∷ xs) c first zero e at by =
+    subst (λ b. In (first + 0) (map first_in (cond b ((first, x) ∷ by_loader c (first + 1) xs) (by_loader c (first + 1) xs))))
+    (sym (eq-eqb (caller_of x) c (ap caller_of (same_Some x e at) ∙ by))) (inl (omega arith))
+has_number (x ∷ xs) c first (suc i) e at by =
+    let next : first + 1 + i ≡ first + suc i = omega arith in
+    later_in (first + suc i) first c x xs (caller_of x == c) (subst (λ n. In n (map first_in (by_loader c (first + 1) xs))) next (has_number xs c (first + 1) i e at by))
+
+-- a loader's account whose story is true has the number of each event by the loader
+pub has_all : (k : Shape) (h : List Event) (c : ℕ) (a : Account) → a.who ≡ Loader c → IsTrueStory k h a.who a.entries → (n : ℕ) (e : Event) → HasEvent h n e → caller_of e ≡ c → In n (own_in a)
+has_all k h c a who story n e has by =
     let told : events_by c h ≡ told_in a.entries = sym (ap (own_events h) who) ∙ story.own in
-    let by : All (λ e. caller_of e ≡ c) (told_in a.entries) =
-    subst (All (λ e. caller_of e ≡ c)) told (All-weaker (λ e. (caller_of e == c) ≡ true) (λ e. caller_of e ≡ c) (λ e same. eqb-true (caller_of e) c same) (events_by c h) (filter_passes (λ e. caller_of e == c) h)) in
-    let enough : length (events_by c h) ≡ length (own_in a) = ap length told ∙ as_many a.entries in
-    all_counted h c (own_in a) (without_stop 1 (own_in a) (a.log.seen + 1) r) (told_events k h (λ e. caller_of e ≡ c) a.entries story.each by) (omega (arith, enough))
+    let place : 1 + (n - 1) ≡ n = omega (arith, has.0) in
+    subst (In n) (ap (map first_in) told ∙ told_numbers a.entries) (subst (λ m. In m (map first_in (events_by c h))) place (has_number h c 1 (n - 1) e has.1 by))

@@ -1,5 +1,5 @@
 -- Lists read by `get_elem?`, and a fact of each element.
-use Rattle.std.proofs.Common.{◌≡◌, ◌≢◌, ℕ, zero, suc, ◌<◌, ◌⊎◌, List, [], ◌∷◌, ◌++◌, length, map, set, sym, refl, ap, inl, inr, ⊎_elim, arith}
+use Rattle.std.proofs.Common.{◌≡◌, ◌≢◌, ℕ, zero, suc, ◌<◌, ◌⊎◌, Bool, true, false, cond, List, [], ◌∷◌, ◌++◌, length, map, filter, set, sym, refl, ap, inl, inr, ⊎_elim, arith}
 use mathlib.Core.Option.{some, some-injective, some-ne-none}
 use lib.ListN.{get_elem?}
 use Rattle.board_core.specs.Each.{Each}
@@ -50,6 +50,14 @@ module _ {A : Type 0} where
   pub each_map : {B : Type 0} (F : B → Type 0) (f : A → B) (xs : List A) → Each (λ x. F (f x)) xs → Each F (map f xs)
   each_map F f [] all = each_none F
   each_map F f (x ∷ xs) all = each_cons F (f x) (map f xs) (all 0 x refl) (each_map F f xs (λ j. all (suc j)))
+
+  one_filtered : (F : A → Type 0) (b : Bool) (x : A) (xs : List A) → F x → Each F xs → Each F (cond b (x ∷ xs) xs)
+  one_filtered F true x xs here rest = each_cons F x xs here rest
+  one_filtered F false x xs here rest = rest
+
+  pub each_filter : (F : A → Type 0) (p : A → Bool) (xs : List A) → Each F xs → Each F (filter p xs)
+  each_filter F p [] all = each_none F
+  each_filter F p (x ∷ xs) all = one_filtered F (p x) x (filter p xs) (all 0 x refl) (each_filter F p xs (λ j. all (suc j)))
 
   pub at_map : {B : Type 0} (f : A → B) (l : List A) (i : ℕ) (a : A) → get_elem? l i ≡ some a → get_elem? (map f l) i ≡ some (f a)
   at_map f [] i a e = absurd (some-ne-none a (sym e))

@@ -25,6 +25,7 @@ use Rattle.board_jobs.specs.Ends.{caller_at}
 use Rattle.board_jobs.specs.Groups.{place_of, with_seen, AreDone, HaveMet, AreGroupsDone, AreNew}
 use Rattle.board_jobs.specs.Printed.{lines_by, printed}
 use Rattle.board_jobs.specs.Telling.{entries_in, tells}
+use Rattle.board_jobs.proofs.Chained.{answered_entries}
 use Rattle.board_jobs.proofs.Fits.{IsCaller, one_place, same_caller, other_caller, AllFit, all_fit}
 use Rattle.board_jobs.proofs.Places.{at_set, map_back, set_here, set_same, set_twice}
 
@@ -80,7 +81,7 @@ module _ (k : Shape) where
   printed_answers group caller (answer ∷ answers) accounts lines a b is at (between, one, rest) all =
       let place : ℕ = place_of k caller in
       let line : Line = line_of group caller answer in
-      let next : HavePrinted k (set accounts place between) (lines ++ line ∷ []) = printed_answer accounts lines line a between is at one.entries all in
+      let next : HavePrinted k (set accounts place between) (lines ++ line ∷ []) = printed_answer accounts lines line a between is at (answered_entries k caller a between answer one) all in
       let last = printed_answers group caller answers (set accounts place between) (lines ++ line ∷ []) between b is (set_here accounts place between (inside accounts place a at)) rest next in
       subst (λ (l : List Account). HavePrinted k l (lines ++ line ∷ map (line_of group caller) answers)) (set_twice accounts place between b)
       (subst (λ (l : List Line). HavePrinted k (set (set accounts place between) place b) l) (append_assoc lines (line ∷ []) (map (line_of group caller) answers)) last)

@@ -1,6 +1,6 @@
 -- What becomes of a record, and what it leaves of the account.
 use Rattle.std.proofs.Common.{◌≡◌, ℕ, ◌+◌, ◌<◌, ◌≤◌, List, [], ◌∷◌, ◌++◌, length, map, sym, ap, subst, ◌∙◌, refl, arith, length-append}
-use Rattle.std.proofs.lemmas.List.{append-nil, map-append}
+use Rattle.std.proofs.lemmas.List.{append-nil}
 use Rattle.htss_defs.specs.declared.shape.Shape.{Shape}
 use Rattle.htss_defs.specs.declared.history.Event.TheVariants.{Publish}
 use Rattle.htss_defs.specs.declared.record.NamedMol.{NamedMol}
@@ -32,7 +32,8 @@ use Rattle.loader.specs.declared.stages.StageError.{StageError}
 use Rattle.loader.specs.declared.stages.StageError.TheVariants as stage
 use Rattle.loader.specs.Stages.{left_in, after_block, staging, HasRows, HasStaged, IsFull, IsRefused, HasRoomBut}
 use Rattle.pub_log.specs.Locking.{after_publication}
-use Rattle.board_jobs.specs.Telling.{entries_in}
+use Rattle.board_core.specs.Answers.{answers_in}
+use Rattle.board_jobs.specs.Answering.{HasRoomFor}
 use Rattle.board_jobs.specs.Calls.{Answers, GoesOn, IsAtWork, IsTaken, refused_line}
 use Rattle.board_jobs.proofs.Chained.{number_same, all_one, all_none, told_one, work_after, goes_on-one}
 
@@ -49,23 +50,23 @@ pub record IsPrepared (a d : Account) (s : Staging) (es : List Entry) : Type 0 w
   pub who : d.who ≡ a.who
   pub log : d.log ≡ a.log
   pub unpinned : d.pool.announced ≡ 0
-  pub entries : entries_in d ≡ entries_in a ++ es
+  pub noted_are : answers_in d.entries ≡ answers_in a.entries ++ noted d.loads es
   pub used : length d.room.used ≡ length a.room.used + block_words (named s)
   pub grows : Grows a d
 
-prepared : (a d : Account) (s : Staging) (block begun placed : ℕ) (es : List Entry) (rows : HasRows (after_block a s) d block begun placed es) → map (λ n. n.entry) (noted rows.loads es) ≡ es → IsPrepared a d s es
+prepared : (a d : Account) (s : Staging) (block begun placed : ℕ) (es : List Entry) → HasRows (after_block a s) d block begun placed es → answers_in d.entries ≡ answers_in a.entries ++ noted d.loads es → IsPrepared a d s es
 prepared a d s block begun placed es rows told =
     let words = first_of (written s.name s.mol) (size_of s.name s.mol) in record {
       who = rows.who;
       log = rows.log;
       unpinned = rows.unpinned;
-      entries = ap (λ (ns : List Noted). map (λ n. n.entry) ns) rows.entries ∙ (map-append (λ (n : Noted). n.entry) a.entries (noted rows.loads es) ∙ ap (λ (l : List Entry). entries_in a ++ l) told);
+      noted_are = told;
       used = ap (λ (r : RoomAccount). length r.used) rows.room ∙ (length-append a.room.used words ∙ ap (λ n. length a.room.used + n) (length_first (written s.name s.mol) (size_of s.name s.mol) ∙ block_size (named s)));
       grows = grows_trans a (after_block a s) d (grows_quiet a (after_block a s) (omega arith) refl) rows.grows;
     }
 
 staged_is : (a d : Account) (s : Staging) → HasStaged a d s → IsPrepared a d s []
-staged_is a d s rows = prepared a d s s.block (length s.mol.atoms) (length s.mol.atoms) [] rows refl
+staged_is a d s rows = prepared a d s s.block (length s.mol.atoms) (length s.mol.atoms) [] rows (ap answers_in (rows.entries ∙ append-nil a.entries) ∙ sym (append-nil (answers_in a.entries)))
 
 -- the caller may go on
 prepared_work : (b : Place) (c d : Seated) (s : Staging) (es : List Entry) → IsAtWork b c → IsOf b d → IsStocked d → length c.account.room.used + size_of s.name s.mol ≤ b.shape.room → IsPrepared c.account d.account s es → IsAtWork b d
@@ -74,6 +75,9 @@ prepared_work b c d s es work of stocked room is = let size = block_size (named 
   ready = record { free = ap (λ (l : LogAccount). l.holding) is.log ∙ work.ready.free; unpinned = is.unpinned; stocked = stocked };
   room = omega arith;
 }
+
+has_room : (k : Shape) (a : Account) (s : Staging) → length a.room.used + size_of s.name s.mol ≤ k.room → HasRoomFor k (length a.room.used) (named s)
+has_room k a s room = let same = block_size (named s) in omega (arith, same, room)
 
 -- ---- under the lock
 
@@ -97,39 +101,39 @@ grows_locked : (a d : Account) (s : Staging) (front : ℕ) → IsPrepared a d s 
 grows_locked a d s front is later = grows_trans a d (locked d front) is.grows (grows_trans d (after_take d) (locked d front) (grows_quiet d (after_take d) (omega arith) refl) (grows_front (after_take d) front later))
 
 -- the log is full
-full-answers : (k : Shape) (a d : Account) (s : Staging) (front : ℕ) → IsPrepared a d s [] → d.log.seen ≤ front → front ≡ k.log
+full-answers : (k : Shape) (a d : Account) (s : Staging) (front : ℕ) → IsPrepared a d s [] → d.log.seen ≤ front → front ≡ k.log → length a.room.used + size_of s.name s.mol ≤ k.room
     → Answers k a (after_free (locked d front) (LogFull front ∷ [])) (to_record (taken (named s) (log_full front)))
-full-answers k a d s front is later full c who =
+full-answers k a d s front is later full room c who =
     let b = after_free (locked d front) (LogFull front ∷ []) in
     let before = seen_before a d s front is later in record {
       who = is.who;
-      entries = told_one d b (LogFull front) (locked d front) refl ∙ ap (λ (l : List Entry). l ++ LogFull front ∷ []) (is.entries ∙ append-nil (entries_in a));
+      noted_are = told_one d b (LogFull front) refl refl ∙ ap (λ (l : List Noted). l ++ noted b.loads (LogFull front ∷ [])) (is.noted_are ∙ append-nil (answers_in a.entries));
       seen = before;
       marks = all_one (λ mark. mark ≤ front) front (omega arith);
       fresh = all_none _;
       fronts = all_one (λ mark. a.log.seen ≤ mark) front before;
       used = is.used;
-      says = full;
+      says = (full, has_room k a s room);
       grows = grows_trans a (locked d front) b (grows_locked a d s front is later) (grows_quiet (locked d front) b (omega arith) refl);
     }
 
 -- it is published
-published-answers : (k : Shape) (a d : Account) (s : Staging) (front : ℕ) → IsPrepared a d s [] → d.log.seen ≤ front
+published-answers : (k : Shape) (a d : Account) (s : Staging) (front : ℕ) → IsPrepared a d s [] → d.log.seen ≤ front → length a.room.used + size_of s.name s.mol ≤ k.room
     → Answers k a (after_publication (locked d front) (number_in d.who) s) (to_record (taken (named s) (published (front + 1))))
-published-answers k a d s front is later c who =
+published-answers k a d s front is later room c who =
     let b = after_publication (locked d front) (number_in d.who) s in
     let told : Entry = Published (front + 1) (Publish (number_in d.who) s.name s.mol) in
     let before = seen_before a d s front is later in record {
       who = is.who;
-      entries = told_one d b told (locked d front) (append-nil (d.entries ++ noted (locked d front).loads (told ∷ [])))
-          ∙ ((λ i. (is.entries ∙ append-nil (entries_in a)) i ++ Published (front + 1) (Publish (number_in (is.who i)) s.name s.mol) ∷ [])
-          ∙ ap (λ n. entries_in a ++ Published (front + 1) (Publish n s.name s.mol) ∷ []) (number_same c a.who who));
+      noted_are = told_one d b told refl (append-nil (d.entries ++ noted b.loads (told ∷ [])))
+          ∙ ((λ i. (is.noted_are ∙ append-nil (answers_in a.entries)) i ++ noted b.loads (Published (front + 1) (Publish (number_in (is.who i)) s.name s.mol) ∷ []))
+          ∙ ap (λ n. answers_in a.entries ++ noted b.loads (Published (front + 1) (Publish n s.name s.mol) ∷ [])) (number_same c a.who who));
       seen = omega (arith, before);
       marks = all_one (λ mark. mark ≤ front + 1) (front + 1) (omega arith);
       fresh = all_one (λ number. a.log.seen < number) (front + 1) (omega (arith, before));
       fronts = all_none _;
       used = is.used;
-      says = tt;
+      says = has_room k a s room;
       grows = grows_trans a (locked d front) b (grows_locked a d s front is later) (grows_quiet (locked d front) b (omega arith) refl);
     }
 
@@ -144,9 +148,11 @@ pub record WasStaged (b : Place) (c d : Seated) (name : List ℕ) (mol : Molecul
   pub added : HasStaged c.account d.account s
   pub room : length c.account.room.used + size_of name mol ≤ b.shape.room
 
+had_room : (b : Place) (c d : Seated) (name : List ℕ) (mol : Molecule) (s : Staging) → WasStaged b c d name mol s → length c.account.room.used + size_of s.name s.mol ≤ b.shape.room
+had_room b c d name mol s was = subst (λ (z : Staging). length c.account.room.used + size_of z.name z.mol ≤ b.shape.room) (sym was.staged) was.room
+
 staged_work : (b : Place) (c d : Seated) (name : List ℕ) (mol : Molecule) (s : Staging) → WasStaged b c d name mol s → IsAtWork b d
-staged_work b c d name mol s was = prepared_work b c d s [] was.work was.of was.stocked
-    (subst (λ (z : Staging). length c.account.room.used + size_of z.name z.mol ≤ b.shape.room) (sym was.staged) was.room) (staged_is c.account d.account s was.added)
+staged_work b c d name mol s was = prepared_work b c d s [] was.work was.of was.stocked (had_room b c d name mol s was) (staged_is c.account d.account s was.added)
 
 pub taken-full : (b : Place) (c d f : Seated) (place : ℕ) (name : List ℕ) (mol : Molecule) (s : Staging) (front told : ℕ) → WasStaged b c d name mol s → told ≡ front → front ≡ b.shape.log → d.account.log.seen ≤ front
     → f ≡ with_account d (after_free (locked d.account front) (LogFull front ∷ [])) → IsTaken b.shape c.account f.account place (record { name = name; mol = mol }) (line.LogFull place told)
@@ -161,7 +167,7 @@ taken-full b c d f place name mol s front told was at full later is =
           subst (λ (x : Seated). Answers k a x.account (to_record (taken one (log_full told)))) (sym is)
           (subst (λ (t : ℕ). Answers k a after (to_record (taken one (log_full t)))) (sym at)
           (subst (λ (z : Staging). Answers k a after (to_record (taken (named z) (log_full front)))) was.staged
-          (full-answers k a d.account s front (staged_is a d.account s was.added) later full)));
+          (full-answers k a d.account s front (staged_is a d.account s was.added) later full (had_room b c d name mol s was))));
     }
 
 pub taken-published : (b : Place) (c d f : Seated) (place : ℕ) (name : List ℕ) (mol : Molecule) (s : Staging) (front number : ℕ) → WasStaged b c d name mol s → number ≡ front + 1 → d.account.log.seen ≤ front
@@ -177,7 +183,7 @@ taken-published b c d f place name mol s front number was next later is =
           subst (λ (x : Seated). Answers k a x.account (to_record (taken one (published number)))) (sym is)
           (subst (λ (t : ℕ). Answers k a after (to_record (taken one (published t)))) (sym next)
           (subst (λ (z : Staging). Answers k a after (to_record (taken (named z) (published (front + 1))))) was.staged
-          (published-answers k a d.account s front (staged_is a d.account s was.added) later)));
+          (published-answers k a d.account s front (staged_is a d.account s was.added) later (had_room b c d name mol s was))));
     }
 
 pub line_taken : (k : Shape) (a b : Account) (place : ℕ) (one : NamedMol) (told is : LoadLine) → told ≡ is → IsTaken k a b place one is → IsTaken k a b place one told
@@ -211,7 +217,7 @@ room-answers k a s left need room full c who =
     let left_is = full.left_is in
     let less = full.less in record {
       who = refl;
-      entries = told_one a b (DataFull left need) a refl;
+      noted_are = told_one a b (DataFull left need) refl refl;
       seen = omega arith;
       marks = all_none _;
       fresh = all_none _;
@@ -221,51 +227,51 @@ room-answers k a s left need room full c who =
       grows = grows_quiet a b (omega arith) refl;
     }
 
-page-answers : (k : Shape) (a d : Account) (s : Staging) → IsPrepared a d s (NoPage ∷ []) → Answers k a d (to_record (taken (named s) no_page))
-page-answers k a d s is c who = let seen : d.log.seen ≡ a.log.seen = ap (λ (l : LogAccount). l.seen) is.log in record {
+page-answers : (k : Shape) (a d : Account) (s : Staging) → length a.room.used + size_of s.name s.mol ≤ k.room → IsPrepared a d s (NoPage ∷ []) → Answers k a d (to_record (taken (named s) no_page))
+page-answers k a d s room is c who = let seen : d.log.seen ≡ a.log.seen = ap (λ (l : LogAccount). l.seen) is.log in record {
   who = is.who;
-  entries = is.entries;
+  noted_are = is.noted_are;
   seen = omega arith;
   marks = all_none _;
   fresh = all_none _;
   fronts = all_none _;
   used = is.used;
-  says = tt;
+  says = has_room k a s room;
   grows = is.grows;
 }
 
-chain-answers : (k : Shape) (a d : Account) (s : Staging) (pages : ℕ) → pages ≡ k.chain → IsPrepared a d s (ChainFull pages ∷ []) → Answers k a d (to_record (taken (named s) (chain_full pages)))
-chain-answers k a d s pages all is c who = let seen : d.log.seen ≡ a.log.seen = ap (λ (l : LogAccount). l.seen) is.log in record {
+chain-answers : (k : Shape) (a d : Account) (s : Staging) (pages : ℕ) → pages ≡ k.chain → length a.room.used + size_of s.name s.mol ≤ k.room → IsPrepared a d s (ChainFull pages ∷ []) → Answers k a d (to_record (taken (named s) (chain_full pages)))
+chain-answers k a d s pages all room is c who = let seen : d.log.seen ≡ a.log.seen = ap (λ (l : LogAccount). l.seen) is.log in record {
   who = is.who;
-  entries = is.entries;
+  noted_are = is.noted_are;
   seen = omega arith;
   marks = all_none _;
   fresh = all_none _;
   fronts = all_none _;
   used = is.used;
-  says = all;
+  says = (all, has_room k a s room);
   grows = is.grows;
 }
 
-pub taken-refused : (b : Place) (c d : Seated) (place : ℕ) (name : List ℕ) (mol : Molecule) (e : StageError) → IsAtWork b c → IsRefused b.shape c d (staging b.shape c.account name mol) e
+pub taken-refused : (b : Place) (c d : Seated) (place : ℕ) (name : List ℕ) (mol : Molecule) (e : StageError) → IsAtWork b c → IsRefused b.shape c d (staging b.shape c.account name mol) e → HasRoomBut b.shape c.account (staging b.shape c.account name mol) e
     → IsTaken b.shape c.account d.account place (record { name = name; mol = mol }) (refused_line place e)
-taken-refused b c d place name mol (stage.DataFull left need) work (full, is) =
+taken-refused b c d place name mol (stage.DataFull left need) work (full, is) room =
     let s = staging b.shape c.account name mol in record {
       fate = no_room left need;
       line_is = refl;
       answers = subst (λ (x : Seated). Answers b.shape c.account x.account (to_record (taken (named s) (no_room left need)))) (sym is) (room-answers b.shape c.account s left need work.room full);
     }
-taken-refused b c d place name mol stage.NoPage work stopped =
+taken-refused b c d place name mol stage.NoPage work stopped room =
     let s = staging b.shape c.account name mol in record {
       fate = no_page;
       line_is = refl;
-      answers = page-answers b.shape c.account d.account s (prepared c.account d.account s s.block (stopped.count + 1) stopped.count (NoPage ∷ []) stopped.left refl);
+      answers = page-answers b.shape c.account d.account s room (prepared c.account d.account s s.block (stopped.count + 1) stopped.count (NoPage ∷ []) stopped.left (told_one c.account d.account NoPage refl stopped.left.entries));
     }
-taken-refused b c d place name mol (stage.ChainFull pages) work stopped =
+taken-refused b c d place name mol (stage.ChainFull pages) work stopped room =
     let s = staging b.shape c.account name mol in record {
       fate = chain_full pages;
       line_is = refl;
-      answers = chain-answers b.shape c.account d.account s pages stopped.refused.all (prepared c.account d.account s s.block (stopped.count + 1) stopped.count (ChainFull pages ∷ []) stopped.left refl);
+      answers = chain-answers b.shape c.account d.account s pages stopped.refused.all room (prepared c.account d.account s s.block (stopped.count + 1) stopped.count (ChainFull pages ∷ []) stopped.left (told_one c.account d.account (ChainFull pages) refl stopped.left.entries));
     }
 
 refused_work : (b : Place) (c d : Seated) (name : List ℕ) (mol : Molecule) (e : StageError) → IsAtWork b c → IsOf b d → IsStocked d → IsRefused b.shape c d (staging b.shape c.account name mol) e → HasRoomBut b.shape c.account (staging b.shape c.account name mol) e
@@ -274,16 +280,16 @@ refused_work b c d name mol (stage.DataFull left need) work of stocked (full, is
     (work_after b c d (after_answer c.account (DataFull left need ∷ [])) is work (record { holding = work.ready.free; pool = refl; who = refl; room = work.room }), ap (λ (x : Seated). x.account.who) is)
 refused_work b c d name mol stage.NoPage work of stocked stopped room =
     let s = staging b.shape c.account name mol in
-    let is = prepared c.account d.account s s.block (stopped.count + 1) stopped.count (NoPage ∷ []) stopped.left refl in
+    let is = prepared c.account d.account s s.block (stopped.count + 1) stopped.count (NoPage ∷ []) stopped.left (told_one c.account d.account NoPage refl stopped.left.entries) in
     (prepared_work b c d s (NoPage ∷ []) work of stocked room is, is.who)
 refused_work b c d name mol (stage.ChainFull pages) work of stocked stopped room =
     let s = staging b.shape c.account name mol in
-    let is = prepared c.account d.account s s.block (stopped.count + 1) stopped.count (ChainFull pages ∷ []) stopped.left refl in
+    let is = prepared c.account d.account s s.block (stopped.count + 1) stopped.count (ChainFull pages ∷ []) stopped.left (told_one c.account d.account (ChainFull pages) refl stopped.left.entries) in
     (prepared_work b c d s (ChainFull pages ∷ []) work of stocked room is, is.who)
 
 pub on-refused : (b : Place) (c d : Seated) (place : ℕ) (name : List ℕ) (mol : Molecule) (e : StageError) → IsAtWork b c → IsOf b d → IsStocked d → IsRefused b.shape c d (staging b.shape c.account name mol) e → HasRoomBut b.shape c.account (staging b.shape c.account name mol) e
     → GoesOn b c d
 on-refused b c d place name mol e work of stocked refused room =
-    let took = taken-refused b c d place name mol e work refused in
+    let took = taken-refused b c d place name mol e work refused room in
     let next = refused_work b c d name mol e work of stocked refused room in
     goes_on-one b c d (to_record (taken (record { name = name; mol = mol }) took.fate)) next.0 next.1 took.answers

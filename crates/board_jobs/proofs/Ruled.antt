@@ -22,9 +22,9 @@ use Rattle.board_core.specs.Histories.{history_of}
 use Rattle.board_core.proofs.Lists.{inside}
 use Rattle.board_core.proofs.Shown.{history_counted}
 use Rattle.board_jobs.specs.Answering.{AreAnswered}
-use Rattle.board_jobs.specs.Apart.{AreApart}
 use Rattle.board_jobs.specs.Groups.{place_of, AreDone, AreGroupsDone, AreNew}
 use Rattle.board_jobs.specs.Ends.{HaveGoneOn, IsEnd}
+use Rattle.board_jobs.specs.Rooms.{HaveHadRoom}
 use Rattle.board_jobs.specs.Rows.{HaveTheirRows}
 use Rattle.board_jobs.proofs.Places.{elem_at, set_here, set_same, set_twice}
 use Rattle.board_jobs.proofs.Marks.{AreSeen, all_right}
@@ -108,9 +108,9 @@ module _ (k : Shape) (files : List (ℕ × List ℕ)) (budget : ℕ) (groups : L
       → (number : ℕ) × Kept k (history_of k p) number middle (flat_map done_lines done)
   all_kept shape new are gone end = kept_groups k p files budget shape groups 1 before middle front done [] are (stand_middle k p middle last gone end) (kept_new k (history_of k p) before new)
 
-  -- no group has seen an event of a later one
-  pub apart : IsShape k → AreNew k before → AreGroupsDone k files budget 1 groups before middle front done → HaveGoneOn k middle last → IsEnd k p last → AreApart (flat_map done_lines done)
-  apart shape new are gone end = (all_kept shape new are gone end).1.apart
+  -- what each line has used had room
+  pub roomed : IsShape k → AreNew k before → AreGroupsDone k files budget 1 groups before middle front done → HaveGoneOn k middle last → IsEnd k p last → HaveHadRoom k (flat_map done_lines done)
+  roomed shape new are gone end = (all_kept shape new are gone end).1.rooms
 
   -- each search has its rows
   pub rowed : IsShape k → AreNew k before → AreGroupsDone k files budget 1 groups before middle front done → HaveGoneOn k middle last → IsEnd k p last → HaveTheirRows (take front (history_of k p)) (flat_map done_lines done)

@@ -1,5 +1,5 @@
 -- What a search answers, and what it leaves of the account.
-use Rattle.std.proofs.Common.{◌≡◌, ⊎_elim, inl, inr, ℕ, ◌+◌, ◌≤◌, List, [], ◌∷◌, length, map, sym, ap, subst, ◌∙◌, refl, arith}
+use Rattle.std.proofs.Common.{◌≡◌, ⊎_elim, inl, inr, ℕ, ◌+◌, ◌≤◌, List, [], ◌∷◌, length, sym, ap, subst, ◌∙◌, refl, arith}
 use Rattle.std.proofs.lemmas.List.{append-nil}
 use Rattle.std.specs.Prelude.{Ok, Err}
 use Rattle.htss_defs.specs.declared.shape.Shape.{Shape}
@@ -14,16 +14,16 @@ use Rattle.report_rules.specs.Answers.{Answer, SearchAnswer, to_search, not_read
 use Rattle.board_core.specs.declared.account.Account.{Account}
 use Rattle.board_core.specs.declared.entry.Entry.{Entry}
 use Rattle.board_core.specs.declared.entry.Entry.TheVariants.{Answered}
-use Rattle.board_core.specs.declared.entry.Noted.{Noted}
 use Rattle.board_core.specs.declared.entry.Reply.TheVariants as reply
 use Rattle.board_core.specs.After.{fronted}
+use Rattle.board_core.specs.Answers.{answers_in}
 use Rattle.board_core.proofs.Grown.{grows_same}
 use Rattle.board.specs.Seated.{Place, Seated, IsOf}
-use Rattle.searcher.specs.Searched.{CountsRows, IsSearched as Searched}
+use Rattle.searcher.specs.Searched.{SaysOfRows, IsSearched as Searched}
 use Rattle.searcher.specs.Walking.{Whatever}
-use Rattle.board_jobs.specs.Telling.{entries_in, search_entries}
+use Rattle.board_jobs.specs.Telling.{search_entries}
 use Rattle.board_jobs.specs.Calls.{Answers, GoesOn, IsAtWork, IsOfQuery, IsSearched, QueryBroke, SearchBroke, TellsReply}
-use Rattle.board_jobs.proofs.Chained.{all_one, all_none, told_one, IsFreed, ready_after, goes_on-one}
+use Rattle.board_jobs.proofs.Chained.{all_one, all_none, IsFreed, ready_after, goes_on-one}
 
 seen_in : (a b : Account) (front : ℕ) (es : List Entry) → Searched a b front es → b.log.seen ≡ front
 seen_in a b front es s = ap (λ l. l.seen) s.log
@@ -33,12 +33,12 @@ used_in a b front es s = let same : length b.room.used ≡ length a.room.used = 
 
 hits-answers : (k : Shape) (a b : Account) (asked : QueryGraph) (budget front : ℕ) (hits : List Hit) (rows records : ℕ) → a.log.seen ≤ front
     → Searched a b front (Answered asked budget front (reply.Hits hits) ∷ []) → Whatever k b front (λ h. Counts asked h records)
-    → Whatever k b front (λ h. CountsRows h rows) → Answers k a b (to_search (hits_at asked budget front hits rows records))
+    → SaysOfRows k b front rows → Answers k a b (to_search (hits_at asked budget front hits rows records))
 hits-answers k a b asked budget front hits rows records later s counted rowed c who =
     let told : Entry = Answered asked budget front (reply.Hits hits) in
     let seen = seen_in a b front (told ∷ []) s in record {
       who = s.who;
-      entries = told_one a b told b s.entries;
+      noted_are = s.entries;
       seen = omega (arith, seen, later);
       marks = all_one (λ mark. mark ≤ b.log.seen) front (omega (arith, seen));
       fresh = all_none _;
@@ -54,7 +54,7 @@ over-answers k a b asked budget front later s c who =
     let told : Entry = Answered asked budget front reply.OverBudget in
     let seen = seen_in a b front (told ∷ []) s in record {
       who = s.who;
-      entries = told_one a b told b s.entries;
+      noted_are = s.entries;
       seen = omega (arith, seen, later);
       marks = all_one (λ mark. mark ≤ b.log.seen) front (omega (arith, seen));
       fresh = all_none _;
@@ -69,7 +69,7 @@ quiet-answers : (k : Shape) (a b : Account) (line code front : ℕ) → a.log.se
 quiet-answers k a b line code front later s c who =
     let seen = seen_in a b front [] s in record {
       who = s.who;
-      entries = ap (λ (ns : List Noted). map (λ n. n.entry) ns) (s.entries ∙ append-nil a.entries) ∙ sym (append-nil (entries_in a));
+      noted_are = s.entries;
       seen = omega (arith, seen, later);
       marks = all_none _;
       fresh = all_none _;
@@ -82,7 +82,7 @@ quiet-answers k a b line code front later s c who =
 same-answers : (k : Shape) (a : Account) (line code : ℕ) → Answers k a a (to_search (not_read line code))
 same-answers k a line code c who = record {
   who = refl;
-  entries = sym (append-nil (entries_in a));
+  noted_are = sym (append-nil (answers_in a.entries));
   seen = omega arith;
   marks = all_none _;
   fresh = all_none _;
@@ -96,7 +96,7 @@ same-answers k a line code c who = record {
 
 pub told-hits : (b : Place) (c d : Seated) (asked : QueryGraph) (budget front : ℕ) (found hits : List Hit) (rows records kept read : ℕ) → hits ≡ found → kept ≡ records → read ≡ rows → c.account.log.seen ≤ front
     → Searched c.account d.account front (Answered asked budget front (reply.Hits found) ∷ []) → Whatever b.shape d.account front (λ h. Counts asked h records)
-    → Whatever b.shape d.account front (λ h. CountsRows h rows) → TellsReply b.shape c.account d.account asked budget (Hits front hits read kept)
+    → SaysOfRows b.shape d.account front rows → TellsReply b.shape c.account d.account asked budget (Hits front hits read kept)
 told-hits b c d asked budget front found hits rows records kept read same count all later s counted rowed =
     subst (λ (x : List Hit). Answers b.shape c.account d.account (to_search (hits_at asked budget front x read kept))) (sym same)
     (subst (λ (n : ℕ). Answers b.shape c.account d.account (to_search (hits_at asked budget front found read n))) (sym count)
@@ -119,7 +119,7 @@ on-searched b c d front es answer work of stock s answers =
     goes_on-one b c d answer (record { of = of; ready = ready_after b c d work.ready stock freed; room = freed.room }) s.who answers
 
 pub on-hits : (b : Place) (c d : Seated) (asked : QueryGraph) (budget front : ℕ) (found : List Hit) (rows records : ℕ) → IsAtWork b c → IsOf b d → d.stock ≡ c.stock → c.account.log.seen ≤ front
-    → Searched c.account d.account front (Answered asked budget front (reply.Hits found) ∷ []) → Whatever b.shape d.account front (λ h. Counts asked h records) → Whatever b.shape d.account front (λ h. CountsRows h rows) → GoesOn b c d
+    → Searched c.account d.account front (Answered asked budget front (reply.Hits found) ∷ []) → Whatever b.shape d.account front (λ h. Counts asked h records) → SaysOfRows b.shape d.account front rows → GoesOn b c d
 on-hits b c d asked budget front found rows records work of stock later s counted rowed =
     on-searched b c d front (Answered asked budget front (reply.Hits found) ∷ []) (to_search (hits_at asked budget front found rows records)) work of stock s
     (hits-answers b.shape c.account d.account asked budget front found rows records later s counted rowed)
@@ -157,7 +157,7 @@ searched-told k a b bytes asked budget (Refused at code) is told = absurd told
 -- the search was answered
 pub broke-hits : (b : Place) (c d : Seated) (asked : QueryGraph) (budget front : ℕ) (found : List Hit) (rows records : ℕ) → c.account.log.seen ≤ front
     → Searched c.account d.account front (Answered asked budget front (reply.Hits found) ∷ []) → Whatever b.shape d.account front (λ h. Counts asked h records)
-    → Whatever b.shape d.account front (λ h. CountsRows h rows) → QueryBroke b.shape c.account d.account asked budget
+    → SaysOfRows b.shape d.account front rows → QueryBroke b.shape c.account d.account asked budget
 broke-hits b c d asked budget front found rows records later s counted rowed = record {
   answer = hits_at asked budget front found rows records;
   said = inr (refl, refl);

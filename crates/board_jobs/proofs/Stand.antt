@@ -10,6 +10,7 @@ use Rattle.report_rules.specs.Answers.{Answer, answers_of}
 use Rattle.report_rules.specs.Dealing.{Caller}
 use Rattle.report_rules.specs.Reports.{Done}
 use Rattle.board_core.specs.declared.account.Account.{Account}
+use Rattle.board_core.specs.Answers.{is_answer, answers_in}
 use Rattle.board_core.specs.Each.{Each}
 use Rattle.board_core.specs.Words.{Parts}
 use Rattle.board_core.specs.Histories.{history_of}
@@ -21,7 +22,8 @@ use Rattle.board_jobs.specs.Telling.{entries_in, tells}
 use Rattle.board_jobs.specs.Answering.{IsAnswered, AreAnswered}
 use Rattle.board_jobs.specs.Groups.{place_of, JobIsDone, AreDone, with_seen, HaveMet, AreGroupsDone}
 use Rattle.board_jobs.specs.Ends.{caller_at, HaveGoneOn, IsEnd}
-use Rattle.board_jobs.proofs.Places.{at_map, elem_at, each_before, each_map, set_else, set_here}
+use Rattle.board_jobs.proofs.Chained.{answered_entries}
+use Rattle.board_jobs.proofs.Places.{at_map, elem_at, each_before, each_filter, each_map, set_else, set_here}
 
 pub record Stands (k : Shape) (p : Parts) (a : Account) : Type 0 where
   pub may : MayBe k p a
@@ -33,7 +35,7 @@ module _ (k : Shape) (p : Parts) where
   pub stands_answered : (caller : Caller) (a b : Account) (answer : Answer) → IsAnswered k caller a b answer → Stands k p b → Stands k p a
   stands_answered caller a b answer is s = record {
     may = board_before k a b is.grows p s.may;
-    entries = each_before (IsTrueLog k (history_of k p)) (entries_in a) (tells caller answer) (subst (Each (IsTrueLog k (history_of k p))) is.entries s.entries);
+    entries = each_before (IsTrueLog k (history_of k p)) (entries_in a) (tells caller answer) (subst (Each (IsTrueLog k (history_of k p))) (answered_entries k caller a b answer is) s.entries);
   }
 
   pub stands_all : (caller : Caller) (answers : List Answer) (a b : Account) → AreAnswered k caller a b answers → Stands k p b → Stands k p a
@@ -68,7 +70,7 @@ module _ (k : Shape) (p : Parts) where
   -- ---- the end
 
   pub stand_last : (last : List Account) → IsEnd k p last → Each (Stands k p) last
-  stand_last last end j x there = record { may = end.may j x there; entries = each_map (IsTrueLog k (history_of k p)) (λ n. n.entry) x.entries (end.stories j x there).each }
+  stand_last last end j x there = record { may = end.may j x there; entries = each_map (IsTrueLog k (history_of k p)) (λ n. n.entry) (answers_in x.entries) (each_filter (λ n. IsTrueLog k (history_of k p) n.entry) (λ n. is_answer n.entry) x.entries (end.stories j x there).each) }
 
   pub stand_middle : (middle last : List Account) → HaveGoneOn k middle last → IsEnd k p last → Each (Stands k p) middle
   stand_middle middle last gone end j x there =

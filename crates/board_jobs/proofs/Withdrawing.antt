@@ -10,14 +10,14 @@ use Rattle.board_core.specs.declared.entry.Entry.{Entry}
 use Rattle.board_core.specs.declared.entry.Entry.TheVariants.{Withdrawn, Unknown, Gone, LogFull}
 use Rattle.board_core.specs.Histories.{history_of, IsOpen}
 use Rattle.board_core.specs.Loaded.{Grows}
-use Rattle.board_core.specs.After.{after_front, after_take}
+use Rattle.board_core.specs.After.{noted, after_front, after_take}
+use Rattle.board_core.specs.Answers.{answers_in}
 use Rattle.board_core.proofs.Grown.{grows_trans, grows_quiet, grows_front}
 use Rattle.board.specs.Seated.{Place, Seated, IsOf, number_in, with_account}
 use Rattle.board.specs.Seated.{number_of as seated_number}
 use Rattle.pub_log.specs.declared.refusals.WithdrawError.{WithdrawError}
 use Rattle.pub_log.specs.declared.refusals.WithdrawError.TheVariants as cause
 use Rattle.pub_log.specs.Locking.{IsCalled, IsRefusal, refusal}
-use Rattle.board_jobs.specs.Telling.{entries_in}
 use Rattle.board_jobs.specs.Calls.{Answers, GoesOn, IsAtWork, IsWithdrawal}
 use Rattle.board_jobs.proofs.Chained.{number_same, all_one, all_none, told_one, IsFreed, ready_after, goes_on-one}
 
@@ -42,7 +42,7 @@ at-answers k a b number front event later next called c who =
     let told : Entry = Withdrawn event (Withdraw (number_in a.who) number) in
     let seen = seen_in (at_lock a front) b event (told ∷ []) called in record {
       who = called.who;
-      entries = told_one a b told b called.entries ∙ ap (λ n. entries_in a ++ Withdrawn event (Withdraw n number) ∷ []) (number_same c a.who who);
+      noted_are = told_one a b told refl called.entries ∙ ap (λ n. answers_in a.entries ++ noted b.loads (Withdrawn event (Withdraw n number) ∷ [])) (number_same c a.who who);
       seen = omega (arith, seen, next, later);
       marks = all_one (λ mark. mark ≤ b.log.seen) event (omega (arith, seen));
       fresh = all_one (λ own. a.log.seen < own) event (omega (arith, next, later));
@@ -58,7 +58,7 @@ unknown-answers k a b number front at later same called c who =
     let told : Entry = Unknown number at in
     let seen = seen_in (at_lock a front) b front (told ∷ []) called in record {
       who = called.who;
-      entries = told_one a b told b called.entries;
+      noted_are = told_one a b told refl called.entries;
       seen = omega (arith, seen, later);
       marks = all_one (λ mark. mark ≤ b.log.seen) at (omega (arith, seen, same));
       fresh = all_none _;
@@ -74,7 +74,7 @@ gone-answers k a b number front at later within called c who =
     let told : Entry = Gone number at in
     let seen = seen_in (at_lock a front) b front (told ∷ []) called in record {
       who = called.who;
-      entries = told_one a b told b called.entries;
+      noted_are = told_one a b told refl called.entries;
       seen = omega (arith, seen, later);
       marks = all_one (λ mark. mark ≤ b.log.seen) at (omega (arith, seen, within));
       fresh = all_none _;
@@ -90,7 +90,7 @@ full-answers k a b number front at later (same, full, opened) called c who =
     let told : Entry = LogFull at in
     let seen = seen_in (at_lock a front) b front (told ∷ []) called in record {
       who = called.who;
-      entries = told_one a b told b called.entries;
+      noted_are = told_one a b told refl called.entries;
       seen = omega (arith, seen, later);
       marks = all_one (λ mark. mark ≤ b.log.seen) at (omega (arith, seen, same));
       fresh = all_none _;

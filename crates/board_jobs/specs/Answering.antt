@@ -18,8 +18,10 @@ use Rattle.board_core.specs.Words.{Parts}
 use Rattle.board_core.specs.Histories.{history_of, IsOpen}
 use Rattle.board_core.specs.Steps.{MayBe}
 use Rattle.board_core.specs.Loaded.{Grows}
-use Rattle.searcher.specs.Searched.{CountsRows}
-use Rattle.board_jobs.specs.Telling.{entries_in, tells}
+use Rattle.board_core.specs.After.{noted}
+use Rattle.board_core.specs.Answers.{answers_in}
+use Rattle.searcher.specs.Searched.{SaysOfRows}
+use Rattle.board_jobs.specs.Telling.{tells}
 
 abbrev pub who_of : Caller → Who
 who_of (loader number) = Loader number
@@ -29,21 +31,21 @@ who_of (searcher number) = Searcher number
 abbrev pub AreCounted : Shape → Account → QueryGraph → ℕ → ℕ → Type 0
 AreCounted k a asked front records = (p : Parts) → MayBe k p a → Counts asked (take front (history_of k p)) records
 
--- so many atoms have the records that are live at this front, whatever the board is
-abbrev pub AreRows : Shape → Account → ℕ → ℕ → Type 0
-AreRows k a front rows = (p : Parts) → MayBe k p a → CountsRows (take front (history_of k p)) rows
-
 -- the number could be withdrawn at this front, whatever the board is
 abbrev pub WasOpen : Shape → Account → ℕ → ℕ → Type 0
 WasOpen k a front number = (p : Parts) → MayBe k p a → IsOpen (take front (history_of k p)) number
 
+-- past so many words the region has room for the record's block
+abbrev pub HasRoomFor : Shape → ℕ → NamedMol → Type 0
+HasRoomFor k used one = used + block_words one ≤ k.room
+
 -- what an answer says beyond its entry: the loader had `used` words of its region in use before
 abbrev pub SaysOfFate : Shape → ℕ → NamedMol → Fate → Type 0
-SaysOfFate k used one (published number) = Unit {0}
+SaysOfFate k used one (published number) = HasRoomFor k used one
 SaysOfFate k used one (no_room left need) = (need ≡ block_words one) × (left < need) × (left + used ≡ k.room)
-SaysOfFate k used one no_page = Unit {0}
-SaysOfFate k used one (chain_full pages) = pages ≡ k.chain
-SaysOfFate k used one (log_full front) = front ≡ k.log
+SaysOfFate k used one no_page = HasRoomFor k used one
+SaysOfFate k used one (chain_full pages) = (pages ≡ k.chain) × HasRoomFor k used one
+SaysOfFate k used one (log_full front) = (front ≡ k.log) × HasRoomFor k used one
 
 abbrev pub SaysOfWithdrawal : Shape → Account → ℕ → WithdrawLine → Type 0
 SaysOfWithdrawal k after number (At event) = Unit {0}
@@ -53,7 +55,7 @@ SaysOfWithdrawal k after number (LogFull front) = (front ≡ k.log) × WasOpen k
 
 abbrev pub SaysOfSearch : Shape → Account → SearchAnswer → Type 0
 SaysOfSearch k after (not_read line code) = Unit {0}
-SaysOfSearch k after (hits_at asked budget front hits rows records) = AreCounted k after asked front records × AreRows k after front rows
+SaysOfSearch k after (hits_at asked budget front hits rows records) = AreCounted k after asked front records × SaysOfRows k after front rows
 SaysOfSearch k after (over_at asked budget front) = Unit {0}
 
 abbrev pub Says : Shape → ℕ → Account → Answer → Type 0
@@ -63,10 +65,10 @@ Says k used after (to_withdrawal number answer) = SaysOfWithdrawal k after numbe
 Says k used after (to_search answer) = SaysOfSearch k after answer
 
 -- one answer: it adds the entries that it prints; its marks are seen afterwards; its own event comes after all that was seen before,
--- and its front is no shorter
+-- and its front is no shorter. Each of its entries has the lengths that the lists of loads had at its end
 pub record IsAnswered (k : Shape) (caller : Caller) (a b : Account) (answer : Answer) : Type 0 where
   pub who : b.who ≡ a.who
-  pub entries : entries_in b ≡ entries_in a ++ tells caller answer
+  pub noted_are : answers_in b.entries ≡ answers_in a.entries ++ noted b.loads (tells caller answer)
   pub seen : a.log.seen ≤ b.log.seen
   pub marks : All (λ mark. mark ≤ b.log.seen) (numbers_of answer ++ fronts_of answer)
   pub fresh : All (λ number. a.log.seen < number) (own_number answer)

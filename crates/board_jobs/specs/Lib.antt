@@ -4,6 +4,6 @@ pub mod Groups
 pub mod Ends
 pub mod Jobs
 pub mod Printed
-pub mod Apart
+pub mod Rooms
 pub mod Rows
 pub mod Calls

@@ -11,11 +11,13 @@ use Rattle.report_rules.specs.Dealing.{Caller}
 use Rattle.report_rules.specs.Rules.{number_of}
 use Rattle.board_core.specs.declared.account.Account.{Account}
 use Rattle.board_core.specs.declared.entry.Entry.{Entry}
+use Rattle.board_core.specs.Answers.{answers_in}
 use Rattle.board_core.specs.declared.entry.Entry.TheVariants.{Published, Withdrawn, Answered, Unknown, Gone, LogFull, DataFull, NoPage, ChainFull}
 use Rattle.board_core.specs.declared.entry.Reply.TheVariants.{Hits, OverBudget}
 
+-- what an account has answered, the rows that a search has come to set aside
 abbrev pub entries_in : Account → List Entry
-entries_in a = map (λ n. n.entry) a.entries
+entries_in a = map (λ n. n.entry) (answers_in a.entries)
 
 abbrev pub fate_entries : ℕ → NamedMol → Fate → List Entry
 fate_entries loader one (published number) = Published number (Publish loader one.name one.mol) ∷ []

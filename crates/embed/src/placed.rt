@@ -35,6 +35,7 @@ impl Placed {
         }
     }
 
+    /// The places, in the order of the query's atoms.
     pub fn as_slice(&self) -> &[u16]
         ensures { result.now ≡ self.now }
     {
@@ -49,6 +50,7 @@ impl Placed {
         map.try_extend_from_slice(self.map.as_slice()).unwrap();
     }
 
+    /// How many places there are.
     pub fn len(&self) -> usize
         ensures value { result ≡ length self.now }
         ensures fits { result ≤ 64 }
@@ -63,6 +65,7 @@ impl Placed {
         p < 1024 && self.taken.has(p)
     }
 
+    /// Puts the next atom at a free place.
     pub fn push(&mut self, p: u16)
         requires room { length self.old < 64 }
         requires within { p < 1024 }
@@ -73,6 +76,7 @@ impl Placed {
         self.taken.insert(p);
     }
 
+    /// Takes the last atom off its place.
     pub fn pop(&mut self)
         ensures { self.new ≡ take (length self.old - 1) self.old }
     {

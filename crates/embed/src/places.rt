@@ -34,6 +34,7 @@ impl PlaceSet {
         self.words[p as usize / 64] &= !(1u64 << (p % 64));
     }
 
+    /// Whether the place is in the set.
     pub fn has(&self, p: u16) -> bool
         requires { p < 1024 }
         ensures { result ≡ (place_bit self.now.words p == 1) }

@@ -1,6 +1,6 @@
 -- The rows of a block, and what is left when the next of them was inserted or refused.
 use Rattle.std.proofs.Common.{◌≡◌, ◌≢◌, ℕ, zero, suc, ◌+◌, ◌<◌, ◌≤◌, List, [], ◌∷◌, ◌++◌, length, refl, sym, ap, ◌∙◌, subst, arith, ⊎_elim, append-nil}
-use Rattle.std.proofs.lemmas.List.{append_assoc}
+use Rattle.std.proofs.lemmas.List.{append_assoc, length-append}
 use mathlib.Core.Option.{some, some-ne-none}
 use mathlib.Core.Logic.{dite}
 use native.Mathlib.Decide.{ℕ_discrete}
@@ -22,7 +22,8 @@ use Rattle.board_core.specs.Blocks.{atoms_in}
 use Rattle.board_core.specs.Loaded.{Grows}
 use Rattle.board_core.specs.RoomRule.{IsSealed}
 use Rattle.board_core.specs.Rows.{words_of, own_codes, RowFits, IsOwnRow}
-use Rattle.board_core.specs.After.{noted}
+use Rattle.board_core.specs.declared.entry.Entry.TheVariants.{NoPage as PageWanted, ChainFull as ChainWasFull}
+use Rattle.board_core.specs.After.{lengths_of, noted, after_answer, after_unpin}
 use Rattle.board_core.proofs.Grown.{grows_same, grows_trans}
 use Rattle.board_core.proofs.Lists.{at_longer, at_last, at_end, each_append}
 use Rattle.board.specs.Seated.{Seated}
@@ -82,7 +83,6 @@ no_rows_yet a block unpinned = record {
   unpinned = unpinned;
   rows_begun = sym (append-nil a.tree.begun);
   rows_placed = sym (append-nil a.tree.placed);
-  loads = a.loads;
   entries = sym (append-nil a.entries);
   grows = grows_same a;
 }
@@ -106,7 +106,6 @@ row_placed k a c d block i rows begun placed = record {
   unpinned = begun.unpinned;
   rows_begun = begun.begun ∙ (ap (λ (l : List Row). l ++ row_at block i ∷ []) rows.rows_begun ∙ one_more a.tree.begun block i);
   rows_placed = placed.placed ∙ (ap (λ (l : List Row). l ++ row_at block i ∷ []) rows.rows_placed ∙ one_more a.tree.placed block i);
-  loads = rows.loads;
   entries = placed.entries ∙ rows.entries;
   grows = grows_trans a c.account d.account rows.grows (begun_grows k c d (row_at block i) begun);
 }
@@ -114,6 +113,23 @@ row_placed k a c d block i rows begun placed = record {
 answered : (k : Shape) (c d : Seated) (row : Row) (e : InsertError) → IsRefusal k c d row e → HasAnswered c d (told_of e)
 answered k c d row NoPage refused = refused.answered
 answered k c d row (ChainFull pages) refused = refused.answered
+
+-- the entry has the lengths of the lists of loads at the end
+last_same : (xs ys : List Noted) (x y : Noted) → xs ++ x ∷ [] ≡ ys ++ y ∷ [] → x ≡ y
+last_same [] [] x y e = cc
+last_same [] (v ∷ ys) x y e = let long : length (x ∷ []) ≡ length (v ∷ ys ++ y ∷ []) = ap length e in let more = length-append ys (y ∷ []) in absurd (omega arith)
+last_same (u ∷ xs) [] x y e = let long : length (u ∷ xs ++ x ∷ []) ≡ length (y ∷ []) = ap length e in let more = length-append xs (x ∷ []) in absurd (omega arith)
+last_same (u ∷ xs) (v ∷ ys) x y e = last_same xs ys x y cc
+
+noted_last : (told : Entry) (c d : Seated) (x : Account) → HasAnswered c d told → d.account ≡ after_unpin (after_answer x (told ∷ [])) → d.account.entries ≡ c.account.entries ++ noted d.account.loads (told ∷ [])
+noted_last told c d x is end =
+    let here : d.account.entries ≡ x.entries ++ noted d.account.loads (told ∷ []) = subst (λ (a : Account). a.entries ≡ x.entries ++ noted a.loads (told ∷ [])) (sym end) refl in
+    is.entries ∙ ap (λ (n : Noted). c.account.entries ++ n ∷ []) (last_same c.account.entries x.entries (record { entry = told; at = lengths_of is.loads }) (record { entry = told; at = lengths_of d.account.loads }) (sym is.entries ∙ here))
+
+at_end_noted : (k : Shape) (c d : Seated) (row : Row) (e : InsertError) → IsRefusal k c d row e → d.account.entries ≡ c.account.entries ++ noted d.account.loads (told_of e ∷ [])
+at_end_noted k c d row NoPage refused = noted_last PageWanted c d refused.refused.last.account refused.answered
+    (ap (λ (x : Seated). x.account) refused.end ∙ ap (λ (x : Seated). after_unpin x.account) refused.refused.after)
+at_end_noted k c d row (ChainFull pages) refused = noted_last (ChainWasFull pages) c d refused.middle.account refused.answered (ap (λ (x : Seated). x.account) refused.end)
 
 pub row_refused : (k : Shape) (o c d : Seated) (block atoms i : ℕ) (e : InsertError) → HasRows o.account c.account block i i [] → i < atoms → HasBegun k c d (row_at block i) → IsRefusal k c d (row_at block i) e → WasStopped k o d block atoms e
 row_refused k o c d block atoms i e rows less begun refused =
@@ -131,8 +147,7 @@ row_refused k o c d block atoms i e rows less begun refused =
         unpinned = begun.unpinned;
         rows_begun = begun.begun ∙ (ap (λ (l : List Row). l ++ row_at block i ∷ []) rows.rows_begun ∙ one_more a.tree.begun block i);
         rows_placed = told.placed ∙ rows.rows_placed;
-        loads = told.loads;
-        entries = told.entries ∙ ap (λ (l : List Noted). l ++ noted told.loads (told_of e ∷ [])) (rows.entries ∙ append-nil a.entries);
+        entries = at_end_noted k c d (row_at block i) e refused ∙ ap (λ (l : List Noted). l ++ noted d.account.loads (told_of e ∷ [])) (rows.entries ∙ append-nil a.entries);
         grows = grows_trans a c.account d.account rows.grows (begun_grows k c d (row_at block i) begun);
       };
     }

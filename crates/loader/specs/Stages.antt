@@ -5,7 +5,6 @@ use Rattle.htss_defs.specs.Molecule.{Molecule}
 use Rattle.board_core.specs.declared.account.Account.{Account}
 use Rattle.board_core.specs.declared.entry.Entry.{Entry}
 use Rattle.board_core.specs.declared.entry.Entry.TheVariants.{DataFull as Full, NoPage as PageWanted, ChainFull as ChainWasFull}
-use Rattle.board_core.specs.declared.loads.Loads.{Loads}
 use Rattle.board_core.specs.declared.room.Row.{Row}
 use Rattle.board_core.specs.Blocks.{first_of}
 use Rattle.board_core.specs.RoomRule.{region_of}
@@ -57,8 +56,7 @@ pub record HasRows (a b : Account) (block begun placed : ℕ) (es : List Entry) 
   pub unpinned : b.pool.announced ≡ 0
   pub rows_begun : b.tree.begun ≡ a.tree.begun ++ rows_of block begun
   pub rows_placed : b.tree.placed ≡ a.tree.placed ++ rows_of block placed
-  pub loads : Loads
-  pub entries : b.entries ≡ a.entries ++ noted loads es
+  pub entries : b.entries ≡ a.entries ++ noted b.loads es
   pub grows : Grows a b
 
 -- the record's block is written, and its rows are placed, an atom's each

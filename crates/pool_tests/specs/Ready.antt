@@ -1,7 +1,14 @@
--- A loader of a board that keeps no page.
+-- Callers of a pool's tests (this project's own).
 use Rattle.std.specs.Prelude.{◌≡◌, []}
 use Rattle.board.specs.Seated.{Place, Seated, IsOf, IsLoader}
 
+-- a caller that is not pinned, and keeps no page
+pub record IsIdle (b : Place) (c : Seated) : Type 0 where
+  pub of : IsOf b c
+  pub unpinned : c.account.pool.announced ≡ 0
+  pub bare : c.stock ≡ []
+
+-- a loader that keeps no page
 pub record IsReady (b : Place) (c : Seated) : Type 0 where
   pub of : IsOf b c
   pub loader : IsLoader c

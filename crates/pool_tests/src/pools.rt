@@ -1,11 +1,10 @@
 // Sixteen pages: all are taken, one is retired while a searcher is pinned, and it is taken again once the searcher has left.
 ghost use Rattle.std.specs.Prelude.{◌≡◌, ◌<◌, ◌≤◌, [], IfOk, IsTrue};
 ghost use Rattle.board_core.specs.Loaded.{HasOwn};
-ghost use Rattle.board.specs.Seated.{IsAtRest};
-ghost use Rattle.pool_tests.specs.Ready.{IsReady};
+ghost use Rattle.pool_tests.specs.Ready.{IsIdle, IsReady};
 
-use board::{Board, Caller, open_board};
-use htss_defs::Shape;
+use crate::made::open;
+use board::{Board, Caller};
 use page_pool::{NoPage, keep, pin, retire, take, unpin};
 use std::alloc::Global;
 use std::test::Fail;
@@ -13,20 +12,18 @@ use std::test::Fail;
 // A new board of sixteen pages, its loader and its searcher.
 fn open_two(alloc: Global) -> Result<(Board, Caller, Caller), Fail>
     ensures loader { IfOk result (λ r. IsReady r.0 r.1) }
-    ensures searcher { IfOk result (λ r. IsAtRest r.0 r.2) }
+    ensures searcher { IfOk result (λ r. IsIdle r.0 r.2) }
     ensures pages { IfOk result (λ r. r.0.shape.pages ≡ 16) }
 {
-    let shape = Shape {
-        loaders: 1,
-        searchers: 1,
-        pages: 16,
-        room: 10,
-        log: 1,
-        chain: 2,
-    };
-    let (board, mut callers) = open_board(alloc, shape)?;
+    let (board, mut callers) = open(alloc, 1, 1, 16)?;
+    if callers.len() != 2 {
+        return Err("not two callers".into());
+    }
     let loader = callers.remove(0);
     let searcher = callers.remove(0);
+    if !loader.is_loader() {
+        return Err("no loader".into());
+    }
     Ok((board, loader, searcher))
 }
 

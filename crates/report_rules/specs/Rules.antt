@@ -31,10 +31,10 @@ marks line = numbers_of line.answer ++ fronts_of line.answer
 
 -- ---- what a mark owes to the lines before it
 
--- a new event comes after all that its loader's earlier lines carry, after the numbers of earlier groups, and no line has it yet
+-- a new event comes after all that its loader's earlier lines and all lines of earlier groups carry, and no line has it yet
 pub record IsNew (earlier : List Line) (line : Line) (number : ℕ) : Type 0 where
   pub loader : All (λ one. one.caller ≡ line.caller → All (λ mark. mark < number) (marks one)) earlier
-  pub groups : All (λ one. one.group < line.group → All (λ mark. mark < number) (numbers_of one.answer)) earlier
+  pub groups : All (λ one. one.group < line.group → All (λ mark. mark < number) (marks one)) earlier
   pub once : All (λ one. All (λ own. own ≢ number) (own_number one.answer)) earlier
 
 -- a front that refuses is no shorter than the log at the end of the group before, and than what its loader's earlier lines carry

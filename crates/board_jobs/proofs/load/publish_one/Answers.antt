@@ -35,7 +35,7 @@ returns-in-Ok-clause-goes_on g c =
     (freed_is c.stage_with.new.caller c.lock-locked.new.caller _ c.lock-locked.result (LogFull c.lock-locked.result ∷ []) c.lock-locked.ensures.account told.3)
 
 pub returns-clause-taken : goal.returns-clause-taken
-returns-clause-taken g c = line_taken _ _ _ _ _ _ _ c.refused_line.ensures (taken-refused c.args.board.now c.args.caller.now _ c.args.place _ _ _ c.requires.work c.in-Err.ensures.refused)
+returns-clause-taken g c = line_taken _ _ _ _ _ _ _ c.refused_line.ensures (taken-refused c.args.board.now c.args.caller.now _ c.args.place _ _ _ c.requires.work c.in-Err.ensures.refused c.in-Err.ensures.had_room)
 
 pub returns-clause-goes_on : goal.returns-clause-goes_on
 returns-clause-goes_on g c = on-refused c.args.board.now c.args.caller.now _ c.args.place _ _ _ c.requires.work c.in-Err.ensures.of c.in-Err.ensures.stocked c.in-Err.ensures.refused c.in-Err.ensures.had_room

@@ -1,0 +1,5 @@
+use Rattle.pool_tests.proofs.Idle.{new_callers}
+use Rattle.pool_tests.proofs.made.open.Goals as goal
+
+pub returns-clause-callers : goal.returns-clause-callers
+returns-clause-callers c = new_callers _ _ c.in_ok-open_board.ensures.callers
