@@ -17,7 +17,7 @@ use Rattle.board_core.specs.Steps.{Agrees, MayBe}
 -- ---- accounts that grow
 
 pub grows_same : (a : Account) → Grows a a
-grows_same a = record { seen = omega arith; shown = λ j x there. there; heads = λ j x there. there; marks = λ j x there. there; facts = λ j x there. there; codes = λ j x there. there }
+grows_same a = record { seen = omega arith; shown = λ j x there. there; heads = λ j x there. there; marks = λ j x there. there; facts = λ j x there. there; codes = λ j x there. there; fronts = λ j x there. there }
 
 pub grows_trans : (a b c : Account) → Grows a b → Grows b c → Grows a c
 grows_trans a b c f g = let first = f.seen in let second = g.seen in record {
@@ -27,6 +27,7 @@ grows_trans a b c f g = let first = f.seen in let second = g.seen in record {
   marks = λ j x there. g.marks j x (f.marks j x there);
   facts = λ j x there. g.facts j x (f.facts j x there);
   codes = λ j x there. g.codes j x (f.codes j x there);
+  fronts = λ j x there. g.fronts j x (f.fronts j x there);
 }
 
 -- nothing was loaded
@@ -38,10 +39,11 @@ grows_quiet a b seen same = record {
   marks = λ j x there. subst (λ (l : Loads). get_elem? l.marks j ≡ some x) (sym same) there;
   facts = λ j x there. subst (λ (l : Loads). get_elem? l.facts j ≡ some x) (sym same) there;
   codes = λ j x there. subst (λ (l : Loads). get_elem? l.codes j ≡ some x) (sym same) there;
+  fronts = λ j x there. subst (λ (l : Loads). get_elem? l.fronts j ≡ some x) (sym same) there;
 }
 
 pub grows_front : (a : Account) (front : ℕ) → a.log.seen ≤ front → Grows a (after_front a front)
-grows_front a front later = record { seen = later; shown = λ j x there. there; heads = λ j x there. there; marks = λ j x there. there; facts = λ j x there. there; codes = λ j x there. there }
+grows_front a front later = record { seen = later; shown = λ j x there. there; heads = λ j x there. there; marks = λ j x there. there; facts = λ j x there. there; codes = λ j x there. there; fronts = λ j x there. at_longer a.loads.fronts (front ∷ []) j x there }
 
 pub grows_shown : (a : Account) (place word : ℕ) → Grows a (after_shown a place word)
 grows_shown a place word = let same = grows_same a in record {
@@ -51,6 +53,7 @@ grows_shown a place word = let same = grows_same a in record {
   marks = same.marks;
   facts = same.facts;
   codes = same.codes;
+  fronts = same.fronts;
 }
 
 pub grows_head : (a : Account) (place word : ℕ) → Grows a (after_head a place word)
@@ -61,6 +64,7 @@ grows_head a place word = let same = grows_same a in record {
   marks = same.marks;
   facts = same.facts;
   codes = same.codes;
+  fronts = same.fronts;
 }
 
 pub grows_mark : (a : Account) (place word : ℕ) → Grows a (after_mark a place word)
@@ -71,6 +75,7 @@ grows_mark a place word = let same = grows_same a in record {
   marks = λ j x there. at_longer a.loads.marks (record { place = place; word = word; front = a.log.seen } ∷ []) j x there;
   facts = same.facts;
   codes = same.codes;
+  fronts = same.fronts;
 }
 
 pub grows_fact : (a : Account) (place word : ℕ) → Grows a (after_fact a place word)
@@ -81,6 +86,7 @@ grows_fact a place word = let same = grows_same a in record {
   marks = same.marks;
   facts = λ j x there. at_longer a.loads.facts (record { place = place; word = word } ∷ []) j x there;
   codes = same.codes;
+  fronts = same.fronts;
 }
 
 pub grows_code : (a : Account) (row : Row) (code word : ℕ) → Grows a (after_code a row code word)
@@ -91,6 +97,7 @@ grows_code a row code word = let same = grows_same a in record {
   marks = same.marks;
   facts = same.facts;
   codes = λ j x there. at_longer a.loads.codes (record { row = row; code = code; word = word } ∷ []) j x there;
+  fronts = same.fronts;
 }
 
 -- ---- what was loaded stays loaded

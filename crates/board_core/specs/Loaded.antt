@@ -101,6 +101,7 @@ pub record Grows (a b : Account) : Type 0 where
   pub marks : (j : ℕ) (x : ShownLoad) → get_elem? a.loads.marks j ≡ some x → get_elem? b.loads.marks j ≡ some x
   pub facts : (j : ℕ) (x : WordLoad) → get_elem? a.loads.facts j ≡ some x → get_elem? b.loads.facts j ≡ some x
   pub codes : (j : ℕ) (x : CodeLoad) → get_elem? a.loads.codes j ≡ some x → get_elem? b.loads.codes j ≡ some x
+  pub fronts : (j x : ℕ) → get_elem? a.loads.fronts j ≡ some x → get_elem? b.loads.fronts j ≡ some x
 
 -- ---- pages and epochs
 

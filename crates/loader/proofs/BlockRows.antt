@@ -94,6 +94,7 @@ begun_grows k c d row h = let seen : d.account.log.seen ≡ c.account.log.seen =
   heads = λ j x there. subst (λ (l : List WordLoad). get_elem? l j ≡ some x) (sym h.heads) there;
   marks = λ j x there. subst (λ (l : List ShownLoad). get_elem? l j ≡ some x) (sym h.marks) there;
   facts = λ j x there. subst (λ (l : List WordLoad). get_elem? l j ≡ some x) (sym h.facts) there;
+  fronts = λ j x there. subst (λ (l : List ℕ). get_elem? l j ≡ some x) (sym h.fronts) there;
   codes = λ j x there. subst (λ (l : List CodeLoad). get_elem? l j ≡ some x) (sym h.codes)
       (at_longer c.account.loads.codes (code_loads row 0 (own_codes k c.account row)) j x there);
 }
