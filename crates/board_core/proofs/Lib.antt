@@ -94,3 +94,4 @@ pub mod SplitCaller
 pub mod JoinNote
 pub mod JoinCaller
 pub mod Opened
+mod CodeSome

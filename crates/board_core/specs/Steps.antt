@@ -428,15 +428,17 @@ LoadsInstead (InnerBehind j n c) = LoadsMore j
 abbrev pub ClaimsWord : Claim → Step (Unit {0}) → Mine → ℕ → Mine → Type 0
 ClaimsWord claim s m found n = Claims (after_claim m.0.me claim) (LoadsInstead claim) s m found n
 
--- a code of an own row was loaded: it is the one that was stored
+-- a code of an own row was loaded: it is the one that was stored, and not 0
 pub record LoadsOwnCode (row : Row) (code : ℕ) (s : Step (Unit {0})) (m : Mine) (found : ℕ) (n : Mine) : Type 0 where
   pub after : n ≡ became m (after_code m.0.me row code found)
   pub stored_is : found ≡ code_of (words_of m.0.shape m.0.me.who m.0.me.room.used row.block) row.atom code
+  pub some_code : found ≢ 0
 
 -- and the row is begun. Of the rows that were placed, its entry word names it alone
 pub record BeginsRow (row : Row) (code : ℕ) (s : Step (Unit {0})) (m : Mine) (found : ℕ) (n : Mine) : Type 0 where
   pub after : n ≡ became m (after_begun (after_code m.0.me row code found) row)
   pub stored_is : found ≡ code_of (words_of m.0.shape m.0.me.who m.0.me.room.used row.block) row.atom code
+  pub some_code : found ≢ 0
   pub alone : HasRow (entry_word row) m.0.me.tree.placed → In row m.0.me.tree.placed
 
 -- the first word of an own block was loaded: it is the one that was stored, and all of the block is in the table
