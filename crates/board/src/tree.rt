@@ -365,13 +365,14 @@ fn load_own_code_of<C: Coded>(
     requires which { C.loaded_code ≡ code }
     ensures after { caller.new ≡ with_account caller.old (after_code caller.old.account (record { block = block; atom = atom }) code result) }
     ensures stored { result ≡ code_of (words_of caller.old.shape caller.old.account.who caller.old.account.room.used block) atom code }
+    ensures some { result ≢ 0 }
 {
     let shared = &board.table.shared;
     let at = code_place(block, head, atom, code);
     shared.load::<LoadOwnCode<C>>(&mut caller.seat, at)
 }
 
-/// Loads a code word of an atom of an own block: it is the one that was stored.
+/// Loads a code word of an atom of an own block: it is the one that was stored, and not 0.
 pub fn load_own_code(
     board: &Board,
     caller: &mut Caller,
@@ -386,6 +387,7 @@ pub fn load_own_code(
     requires atom { (0 < atom) × (atom ≤ atoms_in head) }
     ensures after { caller.new ≡ with_account caller.old (after_code caller.old.account (record { block = block; atom = atom }) code result) }
     ensures stored { result ≡ code_of (words_of caller.old.shape caller.old.account.who caller.old.account.room.used block) atom code }
+    ensures some { result ≢ 0 }
 {
     load_own_code_of::<Brand>(board, caller, block, head, atom, code)
 }
@@ -406,6 +408,7 @@ fn begin_row_of<C: Coded>(
     requires which { C.loaded_code ≡ code }
     ensures after { caller.new ≡ with_account caller.old (after_begun (after_code caller.old.account (record { block = block; atom = atom }) code result) (record { block = block; atom = atom })) }
     ensures stored { result ≡ code_of (words_of caller.old.shape caller.old.account.who caller.old.account.room.used block) atom code }
+    ensures some { result ≢ 0 }
     ensures alone { HasRow (entry_word (record { block = block; atom = atom })) caller.old.account.tree.placed → In (record { block = block; atom = atom }) caller.old.account.tree.placed }
 {
     let shared = &board.table.shared;
@@ -428,6 +431,7 @@ pub fn begin_row(
     requires atom { (0 < atom) × (atom ≤ atoms_in head) }
     ensures after { caller.new ≡ with_account caller.old (after_begun (after_code caller.old.account (record { block = block; atom = atom }) code result) (record { block = block; atom = atom })) }
     ensures stored { result ≡ code_of (words_of caller.old.shape caller.old.account.who caller.old.account.room.used block) atom code }
+    ensures some { result ≢ 0 }
     ensures alone { HasRow (entry_word (record { block = block; atom = atom })) caller.old.account.tree.placed → In (record { block = block; atom = atom }) caller.old.account.tree.placed }
 {
     begin_row_of::<Brand>(board, caller, block, head, atom, code)

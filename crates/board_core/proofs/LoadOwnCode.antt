@@ -1,5 +1,5 @@
 -- A code of an own row is loaded, and a row is begun.
-use Rattle.std.proofs.Common.{◌≡◌, ℕ, zero, suc, ◌+◌, ◌*◌, ◌-◌, ◌%◌, ◌^◌, ◌<◌, ◌≤◌, List, [], ◌∷◌, ◌++◌, set, get_or, sym, refl, ap, ◌∙◌, subst, arith, inl, ⊎_elim}
+use Rattle.std.proofs.Common.{◌≡◌, ◌≢◌, length, ℕ, zero, suc, ◌+◌, ◌*◌, ◌-◌, ◌%◌, ◌^◌, ◌<◌, ◌≤◌, List, [], ◌∷◌, ◌++◌, set, get_or, sym, refl, ap, ◌∙◌, subst, arith, inl, ⊎_elim}
 use mathlib.Core.Option.{some, none, some-ne-none}
 use lib.ListN.{get_elem?}
 use Rattle.atomic_table.specs.Table.{step, keeps, Allows}
@@ -10,22 +10,26 @@ use Rattle.board_core.specs.declared.account.Account.{Account}
 use Rattle.board_core.specs.declared.account.View.{View}
 use Rattle.board_core.specs.declared.loads.CodeLoad.{CodeLoad}
 use Rattle.board_core.specs.declared.room.Row.{Row}
-use Rattle.board_core.specs.Each.{In}
+use Rattle.board_core.specs.Each.{Each, In}
 use Rattle.board_core.specs.Words.{Parts, parts_of, total_of}
-use Rattle.board_core.specs.Blocks.{atoms_in, block_size}
+use Rattle.board_core.specs.Blocks.{atoms_in, atom_words_at, atom_of, block_size, molecule_in}
 use Rattle.board_core.specs.Histories.{block_at, history_of}
-use Rattle.board_core.specs.Records.{code_word_at}
+use Rattle.board_core.specs.Records.{code_word_at, IsRecord}
 use Rattle.board_core.specs.Accounts.{with_me, EachAccount}
 use Rattle.board_core.specs.RoomRule.{store_of, own_block, IsSealed, RoomFits}
 use Rattle.board_core.specs.FactRule.{FactRule, CodeStands, IsCodeOf, BlocksStand, AreOfBlocks, word_at}
 use Rattle.board_core.specs.Sheets.{Sheet, sheet_of}
 use Rattle.board_core.specs.Rows.{entry_word, code_of, codes_in, words_of, RowFits, IsOwnRow, RowsFit, RowRule, HasRow, IsBegun, IsPlaced}
-use Rattle.board_core.specs.KnownRule.{Knows, no_rows}
+use Rattle.board_core.specs.KnownRule.{Knows}
+use Rattle.board_core.specs.OldRows.{IsOldRow}
 use Rattle.board_core.specs.TreeRule.{TreeRule}
 use Rattle.board_core.specs.Holds.{Rule, Holds}
 use Rattle.board_core.specs.After.{after_code, after_begun}
 use Rattle.board_core.specs.Steps.{Mine, MayLoadOwn, LoadsOwnCode, BeginsRow, LoadsOwnHead}
 use Rattle.board_core.proofs.Lists.{each_snoc, inside, set_twice}
+use Rattle.htss_defs.specs.Codes.{code_at}
+use Rattle.board_core.proofs.CodeSome.{some_code}
+use Rattle.board_core.proofs.Shown.{length_first}
 use Rattle.board_core.proofs.Everyone.{mine, changed}
 use Rattle.board_core.proofs.Some.{some_changed}
 use Rattle.board_core.proofs.BlockWords.{ShowSame}
@@ -131,12 +135,12 @@ pub begin_row : (k : Shape) (p : Parts) (h : List Event) (vs : List View) (id : 
 begin_row k p h vs id q v r at fits =
     let a : Account = after_begun v.me q in
     by_tree k p p.pages h vs id v a r at
-    record { who = refl; log = refl; room = refl; entries = refl; shown = refl; heads = refl; facts = refl; codes = refl; marks = refl }
+    record { who = refl; log = refl; room = refl; entries = refl; shown = refl; heads = refl; facts = refl; codes = refl; marks = refl } (λ q h. h) refl
     (pool_reaches k p.pool vs id v a.tree r.pool at (λ j x e. inl (j, e)))
     (own_same p.pages vs id v a r.own at refl)
     (begin_rows k vs id q v r.rows at fits)
     (same_pages p.pages (sheet_of p.pool.states vs) (sheet_of p.pool.states (set vs id (with_me v a))) (linked_kept p.pool.states vs id v a at (λ _. refl) (λ _. refl)))
-    (begin_tree k p.pool.states p.pages (codes_in k p.regions) no_rows vs id q v at (λ n. placed_begun k vs n r.rows) r.tree)
+    (begin_tree k p.pool.states p.pages (codes_in k p.regions) (IsOldRow k p.regions p.log.slots) vs id q v at (λ n. placed_begun k vs n r.rows) r.tree)
 
 pub begin : (k : Shape) (p : Parts) (h : List Event) (vs : List View) (id code : ℕ) (q : Row) (v : View) → Rule k p h vs → get_elem? vs id ≡ some v → IsOwnRow k v.me q → code < 5
     → Rule k p h (set vs id (with_me v (after_begun (after_code v.me q code (code_of (block_at k p.regions q.block) q.atom code)) q)))
@@ -177,6 +181,19 @@ module _ (k : Shape) (slots id place head code : ℕ) (q : Row) (m : Mine) (is :
       sym (found_own s h at) ∙ (own_code k p.regions m.0.me q code (mine (λ x. RoomFits k p.regions (store_of x)) s.views id m.0 at h.rule.rooms.rooms) may.row_is may.code_is
       ∙ ap (λ (z : Shape). code_of (words_of z m.0.me.who m.0.me.room.used q.block) q.atom code) (sym shape))
 
+  told_some : (s : _) → Holds k s → get_elem? s.views id ≡ some m.0 → get_or s.words place 0 ≢ 0
+  told_some s h at z =
+      let words : ℕ → ℕ = words_of k m.0.me.who m.0.me.room.used q.block in
+      let (j, t, there, block) = may.row_is.sealed in
+      let record_is : IsRecord words = subst (λ (b : ℕ). IsRecord (own_block k (store_of m.0.me) b)) block (mine (λ x. Each (λ t. IsRecord (own_block k (store_of x) t.place)) x.room.sealed) s.views id m.0 at h.rule.records j t there) in
+      let above = may.row_is.above in
+      let most : q.atom ≤ atoms_in (words 0) = may.row_is.atom in
+      let same : q.atom - 1 + 1 ≡ q.atom = omega arith in
+      let code_is : code_of words q.atom code ≡ code_at (molecule_in words) code q.atom = record_is.codes (q.atom - 1) code (omega arith) may.code_is ∙ ap (code_at (molecule_in words) code) same in
+      let size : length (molecule_in words).atoms ≡ atoms_in (words 0) = length_first (λ i. atom_of (words (atom_words_at (words 0) + i))) (atoms_in (words 0)) in
+      some_code (molecule_in words) code q.atom record_is.molecule above (omega arith)
+      (sym code_is ∙ (sym (told_own s h at ∙ ap (λ (y : Shape). code_of (words_of y m.0.me.who m.0.me.room.used q.block) q.atom code) shape) ∙ z))
+
   pub own_code_allowed : Allows (Holds k) slots id m place (λ n. n) (LoadsOwnCode q code (step slots place 0 0 none) m)
   own_code_allowed s h _ at _ =
       let p : Parts = parts_of k s.words in
@@ -186,7 +203,7 @@ module _ (k : Shape) (slots id place head code : ℕ) (q : Row) (m : Mine) (is :
         tt,
         still k s place id m.1 m.0 (after_code m.0.me q code found) h
             (subst (λ (n : ℕ). Rule k p (history_of k p) (set s.views id (with_me m.0 (after_code m.0.me q code n)))) (found_own s h at) (load_own_code k p (history_of k p) s.views id code q m.0 h.rule at may.row_is may.code_is)),
-        record { after = refl; stored_is = told_own s h at },
+        record { after = refl; stored_is = told_own s h at; some_code = told_some s h at },
       )
 
   told_alone : (s : _) → Holds k s → get_elem? s.views id ≡ some m.0 → HasRow (entry_word q) m.0.me.tree.placed → In q m.0.me.tree.placed
@@ -204,7 +221,7 @@ module _ (k : Shape) (slots id place head code : ℕ) (q : Row) (m : Mine) (is :
         tt,
         still k s place id m.1 m.0 (after_begun (after_code m.0.me q code found) q) h
             (subst (λ (n : ℕ). Rule k p (history_of k p) (set s.views id (with_me m.0 (after_begun (after_code m.0.me q code n) q)))) (found_own s h at) (begin k p (history_of k p) s.views id code q m.0 h.rule at may.row_is may.code_is)),
-        record { after = refl; stored_is = told_own s h at; alone = told_alone s h at },
+        record { after = refl; stored_is = told_own s h at; some_code = told_some s h at; alone = told_alone s h at },
       )
 
 -- ---- the first word of an own block

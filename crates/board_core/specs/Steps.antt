@@ -36,6 +36,7 @@ use Rattle.board_core.specs.ChainRule.{IsToldChain}
 use Rattle.board_core.specs.EpochRule.{IsPast, last_epoch}
 use Rattle.board_core.specs.LogWord.{kind_in, publication_word, target_in, withdrawal_word}
 use Rattle.board_core.specs.After.{visited, after_begun, after_linked, after_inner, after_entry, after_own, after_slot, after_link, after_more, after_epoch, after_advance, after_pin, after_unpin, after_pass, after_state, after_lost, after_page, after_retire, after_code, after_fact, after_head, after_mark, after_word, noted, after_take, after_free, after_answer, after_front, after_shows, after_ends, after_logged, after_event, after_shown}
+use Rattle.board_core.specs.PublishedRule.{AllPlaced}
 
 abbrev pub Mine : Type 0
 Mine = Me (Unit {0}) View
@@ -78,6 +79,7 @@ pub record MayPublish (k : Shape) (a : Account) (block : ℕ) : Type 0 where
   pub may : MayMark k a
   pub sealed : IsSealed a.room.sealed block
   pub fresh : ¬ (IsAmong a.room.published block)
+  pub placed : AllPlaced k a.who a.room.used a.tree.placed block
 
 -- the last mark of a block may be stored: the number's log word was loaded as its publication, and this mark, at the front that is
 -- seen, as no event's
@@ -307,11 +309,12 @@ pub record LoadsFront (s : Step (Unit {0})) (m : Mine) (found : ℕ) (n : Mine) 
   pub same : m.0.me.log.holding ≡ Fronted → found ≡ m.0.me.log.seen
 
 -- what the rule says of an own region: each sealed block begins before the next word and ends there or before, and what is published
--- is sealed
+-- is sealed, as is the block of each row that is placed
 pub record IsKnownRoom (k : Shape) (a : Account) : Type 0 where
   pub before : Each (λ t. t.place < region_of k a.who + length a.room.used) a.room.sealed
   pub within : Each (λ t. t.place + t.size ≤ region_of k a.who + length a.room.used) a.room.sealed
   pub listed : AreListed a.room
+  pub placed : Each (λ r. IsSealed a.room.sealed r.block) a.tree.placed
 
 -- a word of the region is stored, and completes these blocks; what was stored before is as the rule says
 pub record Stores (more : List Sealed) (s : Step (Unit {0})) (m : Mine) (found : ℕ) (n : Mine) : Type 0 where
@@ -425,15 +428,17 @@ LoadsInstead (InnerBehind j n c) = LoadsMore j
 abbrev pub ClaimsWord : Claim → Step (Unit {0}) → Mine → ℕ → Mine → Type 0
 ClaimsWord claim s m found n = Claims (after_claim m.0.me claim) (LoadsInstead claim) s m found n
 
--- a code of an own row was loaded: it is the one that was stored
+-- a code of an own row was loaded: it is the one that was stored, and not 0
 pub record LoadsOwnCode (row : Row) (code : ℕ) (s : Step (Unit {0})) (m : Mine) (found : ℕ) (n : Mine) : Type 0 where
   pub after : n ≡ became m (after_code m.0.me row code found)
   pub stored_is : found ≡ code_of (words_of m.0.shape m.0.me.who m.0.me.room.used row.block) row.atom code
+  pub some_code : found ≢ 0
 
 -- and the row is begun. Of the rows that were placed, its entry word names it alone
 pub record BeginsRow (row : Row) (code : ℕ) (s : Step (Unit {0})) (m : Mine) (found : ℕ) (n : Mine) : Type 0 where
   pub after : n ≡ became m (after_begun (after_code m.0.me row code found) row)
   pub stored_is : found ≡ code_of (words_of m.0.shape m.0.me.who m.0.me.room.used row.block) row.atom code
+  pub some_code : found ≢ 0
   pub alone : HasRow (entry_word row) m.0.me.tree.placed → In row m.0.me.tree.placed
 
 -- the first word of an own block was loaded: it is the one that was stored, and all of the block is in the table

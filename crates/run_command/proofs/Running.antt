@@ -37,6 +37,7 @@ use Rattle.board_jobs.specs.Groups.{AreNew}
 use Rattle.board_jobs.specs.Ends.{IsEnd}
 use Rattle.board_jobs.specs.Jobs.{IsThere}
 use Rattle.board_jobs.specs.Rows.{HaveTheirRows}
+use Rattle.board_jobs.proofs.Chained.{new_ready}
 use Rattle.board_jobs.proofs.Named.{named, whole}
 use Rattle.board_jobs.proofs.Places.{map_back}
 use Rattle.board_jobs.proofs.Printing.{entries_printed}
@@ -348,7 +349,7 @@ new_callers b callers count new = record {
   count = count;
   each = λ i c there.
       let one = new i c there in
-      (one.of, ap (λ (a : Account). a.who) one.account, record { free = ap (λ (a : Account). a.log.holding) one.account; unpinned = ap (λ (a : Account). a.pool.announced) one.account });
+      (one.of, ap (λ (a : Account). a.who) one.account, new_ready b i c one);
   room = λ i c there. let one = new i c there in subst (λ (a : Account). length a.room.used ≤ b.shape.room) (sym one.account) (omega arith);
 }
 

@@ -1,0 +1,159 @@
+-- A row is begun, and the walk goes down depth by depth.
+use Rattle.std.proofs.Common.{◌≡◌, ◌≢◌, ℕ, zero, suc, ◌+◌, ◌*◌, ◌<◌, ◌≤◌, ◌^◌, List, [], ◌∷◌, ◌++◌, length, get_or, refl, sym, ap, ◌∙◌, subst, arith}
+use mathlib.Core.Option.{some-ne-none}
+use Rattle.htss_defs.specs.declared.shape.Shape.{Shape}
+use Rattle.htss_defs.specs.declared.shape.Field.TheVariants.{Loaders, Searchers, Pages, Room, Log}
+use Rattle.htss_defs.specs.Shapes.{IsShape}
+use Rattle.board_core.specs.Words.{total_of}
+use Rattle.std.specs.Prelude.{Result, Ok, Err, MatchResult}
+use Rattle.board_core.specs.declared.account.Who.{Who}
+use Rattle.board_core.specs.declared.entry.Entry.{Entry}
+use Rattle.board_core.specs.declared.entry.Entry.TheVariants.{NoPage as PageWanted, ChainFull as ChainWasFull}
+use Rattle.board_core.specs.declared.entry.Noted.{Noted}
+use Rattle.board_core.specs.declared.room.Row.{Row}
+use Rattle.board_core.specs.declared.tree.Reached.{Reached}
+use Rattle.board_core.specs.declared.tree.TreeAccount.{TreeAccount}
+use Rattle.board_core.specs.Each.{In}
+use Rattle.board_core.specs.Loaded.{IsPage}
+use Rattle.board_core.specs.Rows.{entry_word, code_of, codes_of, words_of, own_codes, HasRow}
+use Rattle.board_core.specs.After.{root, visited, noted, after_code, after_begun, after_unpin}
+use Rattle.board_core.proofs.Lists.{at_last}
+use Rattle.board.specs.Seated.{Place, Seated, IsOf, with_account}
+use Rattle.page_pool.specs.Taking.{IsPinned}
+use Rattle.class_tree.specs.declared.insert.InsertError.{InsertError}
+use Rattle.class_tree.specs.declared.insert.InsertError.TheVariants.{NoPage, ChainFull}
+use Rattle.class_tree.specs.Inserting.{HasAnswered, HasFullChain, HasPlaced, IsRefusal}
+use Rattle.class_tree.specs.Refusing.{Answers, Stops}
+use Rattle.class_tree.specs.declared.walks.Stop.{Stop}
+use Rattle.class_tree.specs.declared.walks.Slot.{Slot}
+use Rattle.class_tree.specs.declared.walks.Target.{Target}
+use Rattle.class_tree.specs.Linking.{ComesDown}
+use Rattle.class_tree.specs.Walking.{Rest, IsTarget, IsDown, Goes, IsFound, Places, Begins}
+use Rattle.class_tree.proofs.Grown.{goes_same, goes_on}
+
+-- a board has fewer words than that
+pub block_fits : (k : Shape) (block : ℕ) → IsShape k → block < total_of k → block < 2 ^ 40
+block_fits k block h inside =
+    let loaders = (h Loaders).1 in let searchers = (h Searchers).1 in let pages = (h Pages).1 in let log = (h Log).1 in let room = (h Room).1 in
+    let rooms = rooms_most k.loaders k.room 16 loaders in omega arith
+  where
+    rooms_most : (n room most : ℕ) → n ≤ most → n * room ≤ most * room
+    rooms_most zero room most less = omega arith
+    rooms_most (suc n) room zero less = absurd (omega arith)
+    rooms_most (suc n) room (suc most) less = let rest = rooms_most n room most (omega arith) in omega arith
+
+-- ---- depth by depth
+
+pub record IsAtDepth (k : Shape) (c d : Seated) (s : Stop) (depth : ℕ) (t : Target) : Type 0 where
+  pub down : IsDown k d.account s depth t
+  pub goes : Goes 0 c d
+  pub number : s.number ≤ 65536 * depth
+  pub low : depth < 5
+
+pub first_depth : (k : Shape) (c : Seated) (s : Stop) (t : Target) → IsDown k c.account s 0 t → s.number ≡ 0 → IsAtDepth k c c s 0 t
+first_depth k c s t h first = record { down = h; goes = goes_same 0 c; number = omega arith; low = omega arith }
+
+pub found_goes : (k : Shape) (c d e : Seated) (s : Stop) (x : Slot) (depth : ℕ) (t : Target) → IsAtDepth k c d s depth t → IsFound k d e x depth t → Goes 0 c e
+found_goes k c d e s x depth t h found = goes_on 0 0 c d e (omega arith) h.goes found.goes
+
+pub next_depth : (k : Shape) (c d e f : Seated) (s next : Stop) (x : Slot) (depth : ℕ) (t : Target) → IsAtDepth k c d s depth t → IsFound k d e x depth t → ComesDown k e f x.stop next depth t → IsAtDepth k c f next (depth + 1) t
+next_depth k c d e f s next x depth t h found down = record {
+  down = down.down;
+  goes = goes_on 0 0 c e f (omega arith) (goes_on 0 0 c d e (omega arith) h.goes found.goes) down.goes;
+  number = (let now = down.number in let before = found.number in omega arith);
+  low = down.low;
+}
+
+-- ---- the row
+
+-- what its codes are read from
+abbrev Source : Type 0
+Source = Shape × Who × List ℕ
+
+source_of : Seated → Source
+source_of c = (c.shape, c.account.who, c.account.room.used)
+
+abbrev code_in : Source → Row → ℕ → ℕ
+code_in s row i = code_of (words_of s.0 s.1 s.2 row.block) row.atom i
+
+pub is_target : (b : Place) (c h d e f g l : Seated) (row : Row) (entry v w x y z : ℕ) → IsOf b c → h ≡ c → l ≡ with_account g (after_code g.account row 4 z) → g ≡ with_account f (after_code f.account row 3 y) → f ≡ with_account e (after_code e.account row 2 x) → e ≡ with_account d (after_code d.account row 1 w)
+    → d ≡ with_account h (after_begun (after_code h.account row 0 v) row) → v ≡ code_in (h.shape, h.account.who, h.account.room.used) row 0 → w ≡ code_in (d.shape, d.account.who, d.account.room.used) row 1 → x ≡ code_in (e.shape, e.account.who, e.account.room.used) row 2
+    → y ≡ code_in (f.shape, f.account.who, f.account.room.used) row 3 → z ≡ code_in (g.shape, g.account.who, g.account.room.used) row 4 → v ≢ 0 → w ≢ 0 → x ≢ 0 → y ≢ 0 → z ≢ 0
+    → (HasRow (entry_word row) h.account.tree.placed → In row h.account.tree.placed) → (In row c.account.tree.placed → ⊥) → entry ≡ entry_word row → IsTarget b.shape l.account (record { row = row; entry = entry; codes = v ∷ w ∷ x ∷ y ∷ z ∷ [] })
+is_target b c h d e f g l row entry v w x y z of first fifth fourth third second begun s0 s1 s2 s3 s4 n0 n1 n2 n3 n4 alone fresh is =
+    let start : Source = (b.shape, c.account.who, c.account.room.used) in
+    let h_is : (h.shape, h.account.who, h.account.room.used) ≡ start = ap (λ (q : Seated). (q.shape, q.account.who, q.account.room.used)) first ∙ (λ i. (of.shape i, c.account.who, c.account.room.used)) in
+    let d_is : (d.shape, d.account.who, d.account.room.used) ≡ start = ap (λ (q : Seated). (q.shape, q.account.who, q.account.room.used)) begun ∙ h_is in
+    let e_is : (e.shape, e.account.who, e.account.room.used) ≡ start = ap (λ (q : Seated). (q.shape, q.account.who, q.account.room.used)) second ∙ d_is in
+    let f_is : (f.shape, f.account.who, f.account.room.used) ≡ start = ap (λ (q : Seated). (q.shape, q.account.who, q.account.room.used)) third ∙ e_is in
+    let g_is : (g.shape, g.account.who, g.account.room.used) ≡ start = ap (λ (q : Seated). (q.shape, q.account.who, q.account.room.used)) fourth ∙ f_is in
+    let l_is : (l.shape, l.account.who, l.account.room.used) ≡ start = ap (λ (q : Seated). (q.shape, q.account.who, q.account.room.used)) fifth ∙ g_is in
+    let c0 : v ≡ code_in start row 0 = s0 ∙ ap (λ (q : Source). code_in q row 0) h_is in
+    let c1 : w ≡ code_in start row 1 = s1 ∙ ap (λ (q : Source). code_in q row 1) d_is in
+    let c2 : x ≡ code_in start row 2 = s2 ∙ ap (λ (q : Source). code_in q row 2) e_is in
+    let c3 : y ≡ code_in start row 3 = s3 ∙ ap (λ (q : Source). code_in q row 3) f_is in
+    let c4 : z ≡ code_in start row 4 = s4 ∙ ap (λ (q : Source). code_in q row 4) g_is in
+    let tree : l.account.tree ≡ (after_begun h.account row).tree = ap (λ (q : Seated). q.account.tree) fifth ∙ (ap (λ (q : Seated). q.account.tree) fourth ∙ (ap (λ (q : Seated). q.account.tree) third ∙ (ap (λ (q : Seated). q.account.tree) second ∙ ap (λ (q : Seated). q.account.tree) begun))) in
+    let codes : v ∷ w ∷ x ∷ y ∷ z ∷ [] ≡ own_codes b.shape l.account row = (λ i. c0 i ∷ c1 i ∷ c2 i ∷ c3 i ∷ c4 i ∷ []) ∙ ap (λ (q : Who × List ℕ). codes_of (words_of b.shape q.0 q.1 row.block) row.atom) (sym (ap (λ (q : Source). (q.1, q.2)) l_is)) in record {
+      entry = sym is;
+      codes_are = codes;
+      some_code = each_code v w x y z n0 n1 n2 n3 n4;
+      place = record {
+        begun = subst (λ (q : TreeAccount). In row q.begun) (sym tree) (length h.account.tree.begun, at_last h.account.tree.begun row (length h.account.tree.begun) refl);
+        fresh = subst (λ (q : TreeAccount). HasRow (entry_word row) q.placed → ⊥) (sym tree) (λ there. fresh (subst (λ (q : Seated). In row q.account.tree.placed) first (alone there)));
+        below = (own_codes b.shape l.account row, refl);
+      };
+    }
+  where
+    each_code : (v w x y z : ℕ) → v ≢ 0 → w ≢ 0 → x ≢ 0 → y ≢ 0 → z ≢ 0 → (i : ℕ) → i < 5 → get_or (v ∷ w ∷ x ∷ y ∷ z ∷ []) i 0 ≢ 0
+    each_code v w x y z a b c d e zero less = a
+    each_code v w x y z a b c d e (suc zero) less = b
+    each_code v w x y z a b c d e (suc (suc zero)) less = c
+    each_code v w x y z a b c d e (suc (suc (suc zero))) less = d
+    each_code v w x y z a b c d e (suc (suc (suc (suc zero)))) less = e
+    each_code v w x y z a b c d e (suc (suc (suc (suc (suc i))))) less = absurd (omega arith)
+
+-- ---- the pin
+
+only_root : (j : ℕ) → visited (root ∷ []) j ≡ root
+only_root zero = refl
+only_root (suc j) = refl
+
+pub pinned_down : (k : Shape) (c d : Seated) (s : Stop) (t : Target) → IsTarget k c.account t → IsPinned c d → IsPage k 1 → s ≡ record { page = 1; number = 0 } → IsDown k d.account s 0 t
+pinned_down k c d s t h p inside is = subst (λ (x : Seated × Stop). IsDown k x.0.account x.1 0 t) (λ i. (sym p.after i, sym is i)) record {
+  at = record { pinned = p.above; inside = inside; last = refl; there = refl; on = refl; at = refl; kind = refl; size = refl; unread = refl; not_zero = refl };
+  target = record { entry = h.entry; codes_are = h.codes_are; some_code = h.some_code; place = record { begun = h.place.begun; fresh = h.place.fresh; below = h.place.below } };
+  fresh = λ code j less inner on seen. let (i, there) = subst (λ (x : Reached). In code x.slots) (only_root j) seen in absurd (some-ne-none code (sym there));
+  high = λ j less inner. let same : length (visited (root ∷ []) j).path ≡ 0 = ap (λ (x : Reached). length x.path) (only_root j) in omega arith;
+}
+
+-- ---- the answer
+
+answered : (k : Shape) (c d e f g : Seated) (row : Row) (x : Entry) → Begins k c d row → IsPinned d e → Answers e f x → g ≡ with_account f (after_unpin f.account) → HasAnswered c g x
+answered k c d e f g row x b p a unpin = record {
+  placed = ap (λ (q : Seated). q.account.tree.placed) unpin ∙ (ap (λ (q : Rest). q.placed) a.rest ∙ (ap (λ (q : Seated). q.account.tree.placed) p.after ∙ ap (λ (q : Rest). q.placed) b.rest));
+  loads = a.loads;
+  entries = ap (λ (q : Seated). q.account.entries) unpin ∙ (ap (λ (q : Rest). q.entries) a.rest ∙ ap (λ (l : List Noted). l ++ noted a.loads (x ∷ [])) (ap (λ (q : Seated). q.account.entries) p.after ∙ ap (λ (q : Rest). q.entries) b.rest));
+}
+
+pub inserted : (k : Shape) (c d e f g : Seated) (row : Row) (t : Target) (r : Result (Unit {0}) InsertError) → Begins k c d row → t.row ≡ row → IsPinned d e → MatchResult r (λ _. Places e f t.row) (λ x. Stops k e f t.row x) → g ≡ with_account f (after_unpin f.account) → MatchResult r (λ _. HasPlaced c g row) (λ x. IsRefusal k c g row x)
+inserted k c d e f g row t (Ok u) b is p placed unpin = record {
+  placed = ap (λ (q : Seated). q.account.tree.placed) unpin ∙ (ap (λ (q : Rest). q.placed) placed.rest ∙ (λ i. (ap (λ (q : Seated). q.account.tree.placed) p.after ∙ ap (λ (q : Rest). q.placed) b.rest) i ++ is i ∷ []));
+  entries = ap (λ (q : Seated). q.account.entries) unpin ∙ (ap (λ (q : Rest). q.entries) placed.rest ∙ (ap (λ (q : Seated). q.account.entries) p.after ∙ ap (λ (q : Rest). q.entries) b.rest));
+}
+inserted k c d e f g row t (Err NoPage) b is p s unpin = record {
+  answered = answered k c d e f g row PageWanted b p s.answers unpin;
+  before = s.before;
+  empty = s.empty;
+  after = f;
+  refused = s.refused;
+  end = unpin;
+  none = ap (λ (q : Seated). q.stock) unpin ∙ s.none;
+}
+inserted k c d e f g row t (Err (ChainFull pages)) b is p s unpin = record {
+  answered = answered k c d e f g row (ChainWasFull pages) b p s.answers unpin;
+  all = s.all;
+  middle = s.middle;
+  chain = subst (HasFullChain k s.middle.account) is s.chain;
+  end = unpin ∙ ap (λ (q : Seated). with_account q (after_unpin q.account)) s.after;
+}

@@ -1,0 +1,248 @@
+-- A link is followed: to the page that hangs there, or to a new leaf with the row.
+use Rattle.std.proofs.Common.{◌≡◌, ◌≢◌, ℕ, zero, suc, ◌+◌, ◌*◌, ◌%◌, ◌<◌, Bool, true, false, List, [], ◌∷◌, ◌++◌, length, get_or, take, refl, sym, ap, ◌∙◌, subst, arith, take-suc, get_or-set_same}
+use Rattle.std.specs.Prelude.{Option, Some, Result, Ok, Err, MatchResult}
+use lib.ListN.{get_elem?}
+use Rattle.htss_defs.specs.declared.shape.Shape.{Shape}
+use Rattle.board_core.specs.declared.account.Account.{Account}
+use Rattle.board_core.specs.declared.pool.PoolAccount.{PoolAccount}
+use Rattle.board_core.specs.declared.tree.Link.TheVariants.{Absent}
+use Rattle.board_core.specs.declared.tree.Reached.{Reached}
+use Rattle.board_core.specs.ClassTree.{kind_of, header_of}
+use Rattle.board_core.specs.KnownPages.{place_of}
+use Rattle.board_core.specs.Loaded.{IsPage, IsToPlace, HasStored, one_word, leaf_place}
+use Rattle.board_core.specs.After.{root, visited, with_link, after_link, led}
+use Rattle.board_core.specs.Steps.{MayLoadLink, MayLinkLeaf}
+use Rattle.board.specs.Seated.{Seated, with_account, with_stock}
+use Rattle.class_tree.specs.declared.walks.Stop.{Stop}
+use Rattle.class_tree.specs.declared.walks.Slot.{Slot}
+use Rattle.class_tree.specs.declared.walks.Target.{Target}
+use Rattle.class_tree.specs.declared.link.Step.{Step}
+use Rattle.class_tree.specs.declared.link.Step.TheVariants.{Placed, Down}
+use Rattle.class_tree.specs.declared.insert.InsertError.{InsertError}
+use Rattle.class_tree.specs.Inserting.{IsStocked}
+use Rattle.class_tree.specs.Linking.{IsBehind, IsLed, IsHigher, GoesBelow, GoesOn, FollowsTo}
+use Rattle.class_tree.specs.Refusing.{Stops}
+use Rattle.class_tree.specs.Stocked.{IsStockedBut, IsReady}
+use Rattle.class_tree.specs.Walking.{here, Rest, rest_of, AreHigh, IsFresh, IsAt, IsTarget, HasCode, IsDown, IsAtLeaf, Goes}
+use Rattle.class_tree.proofs.Pages.{target_kept, within}
+use Rattle.class_tree.proofs.Grown.{Grown, equal_shown, same_high, grown_link, none_link, grown_fresh, grown_high, grown_at, grown_goes, shown_goes, rest_link, goes_on}
+use Rattle.class_tree.proofs.Chain.{depth_is, stored_header, but_same}
+use Rattle.class_tree.proofs.Searching.{stops_on}
+use Rattle.class_tree.proofs.Entering.{to_place, goes_places}
+
+-- ---- at a link
+
+-- nothing hangs there
+zero_at : (k : Shape) (a : Account) (s : Stop) (path : List ℕ) (rank known i c : ℕ) (leaf b : Bool) → IsAt k a s path rank leaf known → IsAt k (after_link a s.number i c 0 b) s path rank leaf known
+zero_at k a s path rank known i c leaf b h =
+    let less = within k a s path rank known leaf h in
+    let e : here (after_link a s.number i c 0 b) s ≡ with_link i Absent (here a s) = get_or-set_same a.tree.reached s.number (with_link i Absent (here a s)) root less in record {
+      pinned = h.pinned;
+      inside = h.inside;
+      last = (none_link a s i c b less).size ∙ h.last;
+      there = ap (λ (x : Reached). x.page) e ∙ h.there;
+      on = ap (λ (x : Reached). x.path) e ∙ h.on;
+      at = ap (λ (x : Reached). x.rank) e ∙ h.at;
+      kind = ap (λ (x : Reached). x.leaf) e ∙ h.kind;
+      size = ap (λ (x : Reached). length x.slots) e ∙ h.size;
+      unread = ap (λ (x : Reached). x.more) e ∙ h.unread;
+      not_zero = ap (λ (x : Reached). x.zero) e ∙ h.not_zero;
+    }
+
+same_at : (k : Shape) (a b : Account) (s : Stop) (path : List ℕ) (rank known : ℕ) (leaf : Bool) → b.tree.reached ≡ a.tree.reached → b.pool.announced ≡ a.pool.announced → IsAt k a s path rank leaf known → IsAt k b s path rank leaf known
+same_at k a b s path rank known leaf e pin h =
+    let f : here b s ≡ here a s = ap (λ (l : List Reached). visited l s.number) e in record {
+      pinned = (let old = h.pinned in omega arith);
+      inside = h.inside;
+      last = ap length e ∙ h.last;
+      there = ap (λ (x : Reached). x.page) f ∙ h.there;
+      on = ap (λ (x : Reached). x.path) f ∙ h.on;
+      at = ap (λ (x : Reached). x.rank) f ∙ h.at;
+      kind = ap (λ (x : Reached). x.leaf) f ∙ h.kind;
+      size = ap (λ (x : Reached). length x.slots) f ∙ h.size;
+      unread = ap (λ (x : Reached). x.more) f ∙ h.unread;
+      not_zero = ap (λ (x : Reached). x.zero) f ∙ h.not_zero;
+    }
+
+code_zero : (k : Shape) (a : Account) (x : Slot) (depth i c : ℕ) (b : Bool) (t : Target) → HasCode k a x depth t → HasCode k (after_link a x.stop.number i c 0 b) x depth t
+code_zero k a x depth i c b t h =
+    let less = within k a x.stop (take depth t.codes) h.rank h.known false h.at in
+    let e : here (after_link a x.stop.number i c 0 b) x.stop ≡ with_link i Absent (here a x.stop) = get_or-set_same a.tree.reached x.stop.number (with_link i Absent (here a x.stop)) root less in record {
+      rank = h.rank;
+      known = h.known;
+      at = zero_at k a x.stop (take depth t.codes) h.rank h.known i c false b h.at;
+      deep = h.deep;
+      target = target_kept k a (after_link a x.stop.number i c 0 b) t refl h.target;
+      room = h.room;
+      there = ap (λ (y : Reached). get_elem? y.slots x.index) e ∙ h.there;
+      high = same_high a (after_link a x.stop.number i c 0 b) depth (none_link a x.stop i c b less) h.high;
+    }
+
+code_same : (k : Shape) (a b : Account) (x : Slot) (depth : ℕ) (t : Target) → rest_of b ≡ rest_of a → b.tree.reached ≡ a.tree.reached → HasCode k a x depth t → HasCode k b x depth t
+code_same k a b x depth t rest e h = record {
+  rank = h.rank;
+  known = h.known;
+  at = same_at k a b x.stop (take depth t.codes) h.rank h.known false e (ap (λ (r : Rest). r.announced) rest) h.at;
+  deep = h.deep;
+  target = target_kept k a b t rest h.target;
+  room = h.room;
+  there = ap (λ (l : List Reached). get_elem? (visited l x.stop.number).slots x.index) e ∙ h.there;
+  high = same_high a b depth (equal_shown a b e) h.high;
+}
+
+pub may_load_link : (k : Shape) (a : Account) (x : Slot) (depth : ℕ) (t : Target) → HasCode k a x depth t → MayLoadLink k a x.stop.number x.index (get_or t.codes depth 0)
+may_load_link k a x depth t h = record {
+  visit = record { reached = within k a x.stop (take depth t.codes) h.rank h.known false h.at; inside = subst (IsPage k) (sym h.at.there) h.at.inside };
+  pinned = h.at.pinned;
+  inner = h.at.kind;
+  code = h.there;
+  not_zero = h.at.not_zero;
+  unread = h.at.unread;
+}
+
+-- the path goes on with the code
+longer_path : (l : List ℕ) (depth : ℕ) → depth < length l → take depth l ++ get_or l depth 0 ∷ [] ≡ take (depth + 1) l
+longer_path l depth less = sym (take-suc l depth 0 less) ∙ (let e : suc depth ≡ depth + 1 = omega arith in ap (λ (n : ℕ). take n l) e)
+
+codes_long : (k : Shape) (a : Account) (t : Target) → IsTarget k a t → length t.codes ≡ 5
+codes_long k a t h = ap length h.codes_are
+
+-- no page of a deeper chain was reached yet
+none_deeper : (a : Account) (path : List ℕ) (depth code : ℕ) → length path ≡ depth + 1 → AreHigh a depth → IsFresh a path code
+none_deeper a path depth code long high j less inner on seen = let most = high j less inner in let same : length (visited a.tree.reached j).path ≡ length path = ap length on in absurd (omega arith)
+
+-- ---- behind a link
+
+is_behind : (k : Shape) (a b : Account) (x : Slot) (next : Stop) (depth n : ℕ) (leaf : Bool) (t : Target) → HasCode k a x depth t → b ≡ after_link a x.stop.number x.index (get_or t.codes depth 0) n leaf → n ≢ 0 → IsPage k n → next ≡ record { page = n; number = x.stop.number + 1 } → IsBehind k b next (depth + 1) t
+is_behind k a b x next depth n leaf t h e some_n inside is =
+    let s : Stop = x.stop in
+    let code : ℕ = get_or t.codes depth 0 in
+    let after : Account = after_link a s.number x.index code n leaf in
+    let z : Reached = led (here a s) x.index code n leaf in
+    let less = within k a s (take depth t.codes) h.rank h.known false h.at in
+    let g : Grown a after z = grown_link a s x.index code n leaf less some_n in
+    let size = codes_long k a t h.target in
+    let path : z.path ≡ take (depth + 1) t.codes = (λ i. h.at.on i ++ code ∷ []) ∙ longer_path t.codes depth (let deep = h.deep in omega arith) in
+    let long : length (take (depth + 1) t.codes) ≡ depth + 1 = depth_is k a t (depth + 1) (let deep = h.deep in omega arith) h.target in
+    let page : next.page ≡ n = ap (λ (x : Stop). x.page) is in
+    subst (λ (y : Account). IsBehind k y next (depth + 1) t) (sym e) record {
+      leaf = leaf;
+      at = subst (λ (p : List ℕ). IsAt k after next p 0 leaf 0) path (grown_at k a after s next z g (subst (λ (r : Rest). 0 < r.announced) (sym (rest_link a s.number x.index code n leaf)) h.at.pinned)
+          (subst (IsPage k) (sym page) inside) h.at.last (ap (λ (x : Stop). x.number) is) (sym page) refl refl refl);
+      deep = (let deep = h.deep in omega arith);
+      target = target_kept k a after t (rest_link a s.number x.index code n leaf) h.target;
+      fresh = λ _ c. grown_fresh a after z (take (depth + 1) t.codes) c g refl (none_deeper a (take (depth + 1) t.codes) depth c long h.high);
+      high = λ _. grown_high a after z (depth + 1) g (λ _. let size : length z.path ≡ length (take (depth + 1) t.codes) = ap length path in omega arith) (λ j before inner. let most = h.high j before inner in omega arith);
+    }
+
+pub led_read : (k : Shape) (c d : Seated) (x : Slot) (next : Stop) (depth n : ℕ) (t : Target) → HasCode k c.account x depth t → (leaf : Bool) × (d ≡ with_account c (after_link c.account x.stop.number x.index (get_or t.codes depth 0) n leaf)) → n ≢ 0 → IsPage k n → next ≡ record { page = n; number = x.stop.number + 1 } → IsLed k c d x.stop next depth t
+led_read k c d x next depth n t h (leaf, e) some_n inside is =
+    let a : Account = c.account in
+    let code : ℕ = get_or t.codes depth 0 in
+    let less = within k a x.stop (take depth t.codes) h.rank h.known false h.at in record {
+      goes = grown_goes 0 c d (after_link a x.stop.number x.index code n leaf) (led (here a x.stop) x.index code n leaf) (omega arith) e (rest_link a x.stop.number x.index code n leaf) (grown_link a x.stop x.index code n leaf less some_n);
+      number = ap (λ (x : Stop). x.number) is;
+      behind = is_behind k a d.account x next depth n leaf t h (ap (λ (y : Seated). y.account) e) some_n inside is;
+    }
+
+-- nothing hung there, and a new leaf is ready
+pub record IsAtLink (k : Shape) (c e : Seated) (x : Slot) (depth : ℕ) (t : Target) : Type 0 where
+  pub goes : Goes 0 c e
+  pub code : HasCode k e.account x depth t
+
+pub at_link : (k : Shape) (c d e : Seated) (x : Slot) (depth word page header first : ℕ) (t : Target) → HasCode k c.account x depth t → (leaf : Bool) × (d ≡ with_account c (after_link c.account x.stop.number x.index (get_or t.codes depth 0) word leaf)) → word ≡ 0 → IsReady k d e page header first → IsAtLink k c e x depth t
+at_link k c d e x depth word page header first t h (leaf, load) none ready =
+    let a : Account = c.account in
+    let code : ℕ = get_or t.codes depth 0 in
+    let less = within k a x.stop (take depth t.codes) h.rank h.known false h.at in
+    let zero_load : d ≡ with_account c (after_link a x.stop.number x.index code 0 leaf) = load ∙ ap (λ (n : ℕ). with_account c (after_link a x.stop.number x.index code n leaf)) none in record {
+      goes = goes_on 0 (length d.account.tree.reached) c d e (omega arith) (shown_goes 0 c d (after_link a x.stop.number x.index code 0 leaf) zero_load refl (none_link a x.stop x.index code leaf less)) ready.goes;
+      code = code_same k d.account e.account x depth t ready.goes.rest ready.reached (subst (λ (y : Seated). HasCode k y.account x depth t) (sym zero_load) (code_zero k a x depth x.index code leaf t h));
+    }
+
+pub may_link : (k : Shape) (c d e : Seated) (x : Slot) (depth word page header : ℕ) (t : Target) → HasCode k c.account x depth t → (leaf : Bool) × (d ≡ with_account c (after_link c.account x.stop.number x.index (get_or t.codes depth 0) word leaf)) → word ≡ 0
+    → header ≡ kind_of true + 4 * (depth + 1) + 32 * 0 → IsReady k d e page header t.entry → MayLinkLeaf k e.account x.stop.number x.index (get_or t.codes depth 0) page t.row
+may_link k c d e x depth word page header t h load none is ready =
+    let end = at_link k c d e x depth word page header t.entry t h load none ready in
+    let w = end.code in
+    let code : ℕ = get_or t.codes depth 0 in
+    let size = codes_long k e.account t w.target in
+    let path : (here e.account x.stop).path ++ code ∷ [] ≡ take (depth + 1) t.codes = (λ i. w.at.on i ++ code ∷ []) ∙ longer_path t.codes depth (let deep = w.deep in omega arith) in
+    let long : length (take (depth + 1) t.codes) ≡ depth + 1 = depth_is k e.account t (depth + 1) (let deep = w.deep in omega arith) w.target in
+    let header_is : header ≡ header_of (leaf_place (here e.account x.stop) x.index code) = is ∙ (λ i. kind_of true + 4 * sym (ap length path ∙ long) i + 32 * 0) in record {
+      load = may_load_link k e.account x depth t w;
+      new = subst (λ (n : ℕ). HasStored e.account page (one_word (header_of (leaf_place (here e.account x.stop) x.index code)) n)) (sym w.target.entry) (stored_header e.account page header (header_of (leaf_place (here e.account x.stop) x.index code)) t.entry header_is ready.stored);
+      row = subst (λ (p : List ℕ). IsToPlace k e.account p t.row) (sym path) (to_place k e.account t (depth + 1) w.target);
+    }
+
+pub link_pool : (a : Account) (j i c n : ℕ) (leaf : Bool) → (after_link a j i c n leaf).pool ≡ a.pool
+link_pool a j i c zero leaf = refl
+link_pool a j i c (suc n) leaf = refl
+
+pub link_stocked : (c d : Seated) (j i code found : ℕ) → IsStocked c → (leaf : Bool) × (d ≡ with_account c (after_link c.account j i code found leaf)) → IsStocked d
+link_stocked c d j i code found s (leaf, link) = subst IsStocked (sym link) (subst (λ (p : PoolAccount). IsStocked (with_account c (record (after_link c.account j i code found leaf) { pool = p }))) (sym (link_pool c.account j i code found leaf)) record { own = s.own; size = s.size; clean = s.clean })
+
+pub link_but : (k : Shape) (d e f : Seated) (j i c page header first found : ℕ) → IsReady k d e page header first → (leaf : Bool) × (f ≡ with_account e (after_link e.account j i c found leaf)) → IsStockedBut f page
+link_but k d e f j i c page header first found ready (leaf, link) = but_same e f page ready.but (ap (λ (x : Seated). x.stock) link) (ap (λ (x : Seated). x.account.pool) link ∙ link_pool e.account j i c found leaf)
+
+pub link_lost : (k : Shape) (c d e f g : Seated) (x : Slot) (next : Stop) (depth word found page header : ℕ) (t : Target) → HasCode k c.account x depth t → (leaf : Bool) × (d ≡ with_account c (after_link c.account x.stop.number x.index (get_or t.codes depth 0) word leaf)) → word ≡ 0
+    → IsReady k d e page header t.entry → (leaf : Bool) × (f ≡ with_account e (after_link e.account x.stop.number x.index (get_or t.codes depth 0) found leaf)) → found ≢ 0 → IsPage k found → g ≡ with_stock f (f.stock ++ page ∷ []) → next ≡ record { page = found; number = x.stop.number + 1 } → IsLed k c g x.stop next depth t
+link_lost k c d e f g x next depth word found page header t h load none ready link some_n inside keep is =
+    let end = at_link k c d e x depth word page header t.entry t h load none ready in
+    let now = led_read k e f x next depth found t end.code link some_n inside is in
+    let goes_f = goes_on 0 0 c e f (omega arith) end.goes now.goes in
+    subst (λ (y : Seated). IsLed k c y x.stop next depth t) (sym keep) record {
+      goes = record { table = goes_f.table; shape = goes_f.shape; rest = goes_f.rest; longer = goes_f.longer; stays = goes_f.stays };
+      number = now.number;
+      behind = now.behind;
+    }
+
+-- ---- the kind of the page behind a link
+
+kind_leaf : (leaf : Bool) (depth rank header : ℕ) → header ≡ kind_of leaf + 4 * depth + 32 * rank → header % 4 ≡ 1 → leaf ≡ true
+kind_leaf true depth rank header is one = refl
+kind_leaf false depth rank header is one = absurd (omega arith)
+
+kind_inner : (leaf : Bool) (depth rank header : ℕ) → header ≡ kind_of leaf + 4 * depth + 32 * rank → header % 4 ≢ 1 → leaf ≡ false
+kind_inner true depth rank header is other = absurd (other (omega arith))
+kind_inner false depth rank header is other = refl
+
+-- an inner chain is there
+pub comes_higher : (k : Shape) (c d : Seated) (s : Stop) (depth header : ℕ) (t : Target) → IsBehind k c.account s depth t → d ≡ c → header ≡ header_of (place_of (here c.account s)) → ((here c.account s).leaf ≡ false → length (here c.account s).path < 5) → header % 4 ≢ 1 → IsHigher k c d s s depth t
+comes_higher k c d s depth header t h same is shallow other =
+    let inner : (here c.account s).leaf ≡ false = kind_inner (here c.account s).leaf (length (here c.account s).path) (here c.account s).rank header is other in
+    let kind : h.leaf ≡ false = sym h.at.kind ∙ inner in
+    let long = depth_is k c.account t depth h.deep h.target in
+    let path : length (here c.account s).path ≡ length (take depth t.codes) = ap length h.at.on in
+    let low = shallow inner in record {
+      same = same;
+      is = refl;
+      low = omega arith;
+      down = subst (λ (x : Seated). IsDown k x.account s depth t) (sym same) record {
+        at = subst (λ (b : Bool). IsAt k c.account s (take depth t.codes) 0 b 0) kind h.at;
+        target = h.target;
+        fresh = h.fresh kind;
+        high = h.high kind;
+      };
+    }
+
+-- a leaf is there
+pub comes_leaf : (k : Shape) (c d : Seated) (s : Stop) (depth header : ℕ) (t : Target) → IsBehind k c.account s depth t → d ≡ c → header ≡ header_of (place_of (here c.account s)) → header % 4 ≡ 1 → IsAtLeaf k d.account s depth 0 0 t
+comes_leaf k c d s depth header t h same is one =
+    let leaf : (here c.account s).leaf ≡ true = kind_leaf (here c.account s).leaf (length (here c.account s).path) (here c.account s).rank header is one in
+    subst (λ (x : Seated). IsAtLeaf k x.account s depth 0 0 t) (sym same) record { at = subst (λ (b : Bool). IsAt k c.account s (take depth t.codes) 0 b 0) (sym h.at.kind ∙ leaf) h.at; deep = h.deep; target = h.target }
+
+-- ---- down a level
+
+pub follows : (k : Shape) (c d e : Seated) (x : Slot) (next : Stop) (depth : ℕ) (t : Target) (s : Step) → IsLed k c d x.stop next depth t → GoesOn k d e next (depth + 1) t s → FollowsTo k c e x depth t s
+follows k c d e x next depth t Placed l g = goes_places 0 c d e t.row l.goes g
+follows k c d e x next depth t (Down to) l g = record {
+  goes = subst (λ (y : Seated). Goes 0 c y) (sym g.same) l.goes;
+  number = ap (λ (y : Stop). y.number) g.is ∙ l.number;
+  low = g.low;
+  down = subst (λ (y : Stop). IsDown k e.account y (depth + 1) t) (sym g.is) g.down;
+}
+
+pub follow_result : (k : Shape) (c d e : Seated) (x : Slot) (o : Option Stop) (next : Stop) (depth : ℕ) (t : Target) (r : Result Step InsertError) → o ≡ Some next → GoesBelow k c d x depth t o → MatchResult r (λ s. GoesOn k d e next (depth + 1) t s) (λ y. Stops k d e t.row y) → MatchResult r (λ s. FollowsTo k c e x depth t s) (λ y. Stops k c e t.row y)
+follow_result k c d e x o next depth t (Ok s) is led g = follows k c d e x next depth t s (subst (GoesBelow k c d x depth t) is led) g
+follow_result k c d e x o next depth t (Err y) is led g = let l : IsLed k c d x.stop next depth t = subst (GoesBelow k c d x depth t) is led in stops_on k 0 c d e t.row y l.goes g

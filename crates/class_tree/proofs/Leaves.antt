@@ -1,0 +1,145 @@
+-- A chain of leaves goes on at its next page, which another has linked, or which this walk makes with the row and links.
+use Rattle.std.proofs.Common.{◌≡◌, ◌≢◌, ℕ, ◌+◌, ◌*◌, ◌<◌, ◌≤◌, true, false, List, [], ◌∷◌, ◌++◌, length, take, drop, refl, sym, ap, ◌∙◌, subst, arith, take-append-drop}
+use Rattle.std.specs.Prelude.{Option, Some}
+use Rattle.htss_defs.specs.declared.shape.Shape.{Shape}
+use Rattle.board_core.specs.declared.account.Account.{Account}
+use Rattle.board_core.specs.declared.account.Who.{Who}
+use Rattle.board_core.specs.declared.account.Who.TheVariants.{Loader}
+use Rattle.board_core.specs.declared.entry.Entry.TheVariants.{ChainFull as ChainWasFull}
+use Rattle.board_core.specs.declared.pool.PoolAccount.{PoolAccount}
+use Rattle.board_core.specs.declared.room.Row.{Row}
+use Rattle.board_core.specs.ClassTree.{chained, kind_of, header_of}
+use Rattle.board_core.specs.ChainRule.{HasWalked}
+use Rattle.board_core.specs.Loaded.{IsPage, IsToPlace, HasStored, one_word, next_place}
+use Rattle.board_core.specs.After.{visited, after_answer, after_linked, after_more, next_of}
+use Rattle.board_core.specs.Steps.{MayLinkMoreLeaf}
+use Rattle.board.specs.Seated.{Place, Seated, IsOf, IsLoader, number_in, with_account, with_stock}
+use Rattle.class_tree.specs.declared.walks.Stop.{Stop}
+use Rattle.class_tree.specs.declared.walks.Target.{Target}
+use Rattle.class_tree.specs.Inserting.{IsStocked, HasFullChain}
+use Rattle.class_tree.specs.Linking.{IsNextLeaf, GoesBehind}
+use Rattle.class_tree.specs.Refusing.{WasFullChain}
+use Rattle.class_tree.specs.Stocked.{IsReady}
+use Rattle.class_tree.specs.Walking.{here, Rest, rest_of, shown_of, IsTarget, IsAtLeaf, Goes, Reads, Places, EntersRow, AreFull}
+use Rattle.class_tree.proofs.Pages.{target_kept}
+use Rattle.class_tree.proofs.Grown.{grown_more, grown_goes, rest_more, goes_on, goes_same}
+use Rattle.class_tree.proofs.Chain.{IsWhole, whole, whole_less, next_at, IsAtEnd, at_end_of, depth_is, stored_header, next_header, may_load_more, stocked_without}
+use Rattle.class_tree.proofs.Searching.{goes_less, reads_goes, full_on, none_full, all_full, chain_refused, has_walked}
+use Rattle.class_tree.proofs.Entering.{to_place, goes_places}
+
+-- leaves chain at every depth
+deep_enough : (n : ℕ) → chained ≤ n
+unfolding chained
+deep_enough n = omega arith
+
+-- ---- whose the caller is, and its stock
+
+pub places_of : (b : Place) (c d : Seated) (row : Row) → Places c d row → IsOf b c → IsOf b d
+places_of b c d row p of = record { table = p.table ∙ of.table; shape = p.shape ∙ of.shape }
+
+pub places_loader : (c d : Seated) (row : Row) → Places c d row → IsLoader c → IsLoader d
+places_loader c d row p loader = subst (λ (w : Who). w ≡ Loader (number_in w)) (sym (ap (λ (x : Rest). x.who) p.rest)) loader
+
+pub enters_stocked : (c d : Seated) (row : Row) → EntersRow c d row → IsStocked c → IsStocked d
+enters_stocked c d row p s = subst (λ (x : PoolAccount × List ℕ). IsStocked (record d { account = record d.account { pool = x.0 }; stock = x.1 })) (λ i. (sym p.pool i, sym p.stock i)) record { own = s.own; size = s.size; clean = s.clean }
+
+-- the row was placed with a new page
+pub linked_places : (n : ℕ) (c e f : Seated) (page : ℕ) (row : Row) → Goes n c e → f ≡ with_account e (after_linked e.account page (row ∷ [])) → Places c f row
+linked_places n c e f page row g link = goes_places n c e f row g (subst (λ (x : Seated). Places e x row) (sym link) record { table = refl; shape = refl; rest = refl })
+
+pub linked_stocked : (k : Shape) (d e f : Seated) (page header first : ℕ) (rows : List Row) → IsReady k d e page header first → f ≡ with_account e (after_linked e.account page rows) → IsStocked f
+linked_stocked k d e f page header first rows ready link = stocked_without e f page ready.but (ap (λ (x : Seated). x.stock) link) (ap (λ (x : Seated). x.account.pool.own) link) (ap (λ (x : Seated). x.account.pool.parted) link)
+
+-- ---- the next leaf
+
+leaf_next : (k : Shape) (a b : Account) (s next : Stop) (depth rank n : ℕ) (t : Target) → IsWhole k a s (take depth t.codes) rank true → depth ≤ 5 → IsTarget k a t → b ≡ after_more a s.number n → n ≢ 0 → IsPage k n → next ≡ record { page = n; number = s.number + 1 } → IsAtLeaf k b next depth (rank + 1) 0 t
+leaf_next k a b s next depth rank n t w deep target e some_n inside is = record {
+  at = next_at k a b s next (take depth t.codes) rank n true w e some_n inside is;
+  deep = deep;
+  target = target_kept k a b t (ap rest_of e ∙ rest_more a s.number n) target;
+}
+
+pub leaf_read : (k : Shape) (c d : Seated) (s next : Stop) (depth rank n : ℕ) (t : Target) → IsAtLeaf k c.account s depth rank 14 t → d ≡ with_account c (after_more c.account s.number n) → n ≢ 0 → IsPage k n → next ≡ record { page = n; number = s.number + 1 } → IsNextLeaf k c d s next depth rank t
+leaf_read k c d s next depth rank n t h e some_n inside is =
+    let w = whole k c.account s (take depth t.codes) rank true h.at in
+    let less = whole_less k c.account s (take depth t.codes) rank true w in record {
+      goes = grown_goes (s.number + 1) c d (after_more c.account s.number n) (next_of (here c.account s) n) (omega arith) e (rest_more c.account s.number n) (grown_more c.account s n less some_n);
+      number = ap (λ (x : Stop). x.number) is;
+      leaf = leaf_next k c.account d.account s next depth rank n t w h.deep h.target (ap (λ (x : Seated). x.account) e) some_n inside is;
+    }
+
+pub leaf_end : (k : Shape) (c d e : Seated) (s : Stop) (depth rank word page header first : ℕ) (t : Target) → IsAtLeaf k c.account s depth rank 14 t → d ≡ with_account c (after_more c.account s.number word) → word ≡ 0 → IsReady k d e page header first → IsAtEnd k c e s (take depth t.codes) rank true
+leaf_end k c d e s depth rank word page header first t h load none ready = at_end_of k c d e s (take depth t.codes) rank word page header first true (whole k c.account s (take depth t.codes) rank true h.at) load none ready
+
+pub may_link_leaf : (k : Shape) (c d e : Seated) (s : Stop) (depth rank word page header : ℕ) (t : Target) → IsAtLeaf k c.account s depth rank 14 t → rank + 1 < k.chain → d ≡ with_account c (after_more c.account s.number word) → word ≡ 0
+    → header ≡ kind_of true + 4 * depth + 32 * (rank + 1) → IsReady k d e page header t.entry → MayLinkMoreLeaf k e.account s.number page t.row
+may_link_leaf k c d e s depth rank word page header t h room load none is ready =
+    let path : List ℕ = take depth t.codes in
+    let end = leaf_end k c d e s depth rank word page header t.entry t h load none ready in
+    let w = end.whole_page in
+    let target = target_kept k c.account e.account t end.goes.rest h.target in
+    let long = depth_is k e.account t depth h.deep target in record {
+      may = record {
+        load = may_load_more k e.account s path rank true w;
+        rank = (let at = w.at in omega arith);
+        new = subst (λ (n : ℕ). HasStored e.account page (one_word (header_of (next_place (here e.account s))) n)) (sym target.entry) (stored_header e.account page header _ t.entry (next_header (here e.account s) path depth rank header true w.on long w.at w.kind is) ready.stored);
+      };
+      leaf = w.kind;
+      deep = deep_enough (length (here e.account s).path);
+      row = subst (λ (p : List ℕ). IsToPlace k e.account p t.row) (sym w.on) (to_place k e.account t depth target);
+    }
+
+pub leaf_lost : (k : Shape) (c d e f g : Seated) (s next : Stop) (depth rank word found page header : ℕ) (t : Target) → IsAtLeaf k c.account s depth rank 14 t → d ≡ with_account c (after_more c.account s.number word) → word ≡ 0
+    → IsReady k d e page header t.entry → f ≡ with_account e (after_more e.account s.number found) → found ≢ 0 → IsPage k found → g ≡ with_stock f (f.stock ++ page ∷ []) → next ≡ record { page = found; number = s.number + 1 } → IsNextLeaf k c g s next depth rank t
+leaf_lost k c d e f g s next depth rank word found page header t h load none ready link some_n inside keep is =
+    let path : List ℕ = take depth t.codes in
+    let end = leaf_end k c d e s depth rank word page header t.entry t h load none ready in
+    let less = whole_less k e.account s path rank true end.whole_page in
+    let goes_f = goes_on (s.number + 1) (s.number + 1) c e f (omega arith) end.goes (grown_goes (s.number + 1) e f (after_more e.account s.number found) (next_of (here e.account s) found) (omega arith) link (rest_more e.account s.number found) (grown_more e.account s found less some_n)) in
+    let leaf_f = leaf_next k e.account f.account s next depth rank found t end.whole_page h.deep (target_kept k c.account e.account t end.goes.rest h.target) (ap (λ (x : Seated). x.account) link) some_n inside is in
+    subst (λ (y : Seated). IsNextLeaf k c y s next depth rank t) (sym keep) record {
+      goes = record { table = goes_f.table; shape = goes_f.shape; rest = goes_f.rest; longer = goes_f.longer; stays = goes_f.stays };
+      number = ap (λ (x : Stop). x.number) is;
+      leaf = leaf_f;
+    }
+
+pub some_next : (k : Shape) (c d : Seated) (s : Stop) (depth rank : ℕ) (t : Target) (o : Option Stop) (next : Stop) → o ≡ Some next → GoesBehind k c d s depth rank t o → IsNextLeaf k c d s next depth rank t
+some_next k c d s depth rank t o next e g = subst (GoesBehind k c d s depth rank t) e g
+
+-- ---- the loop
+
+pub record IsAlongLeaves (k : Shape) (c d : Seated) (first s : Stop) (depth rank : ℕ) (t : Target) : Type 0 where
+  pub leaf : IsAtLeaf k d.account s depth rank 0 t
+  pub goes : Goes 0 c d
+  pub full : AreFull d.account s.number (take depth t.codes) true rank
+  pub number : s.number ≡ first.number + rank
+
+pub leaves_first : (k : Shape) (c : Seated) (s : Stop) (depth : ℕ) (t : Target) → IsAtLeaf k c.account s depth 0 0 t → IsAlongLeaves k c c s s depth 0 t
+leaves_first k c s depth t h = record { leaf = h; goes = goes_same 0 c; full = none_full c.account s.number (take depth t.codes) true; number = omega arith }
+
+pub leaves_read : (k : Shape) (c d e : Seated) (first s : Stop) (depth rank : ℕ) (t : Target) → IsAlongLeaves k c d first s depth rank t → Reads d e s.number → Goes 0 c e
+leaves_read k c d e first s depth rank t h reads = goes_on 0 0 c d e (omega arith) h.goes (goes_less 0 s.number d e (omega arith) (reads_goes s.number d e reads))
+
+pub leaves_next : (k : Shape) (c d e f : Seated) (first s next : Stop) (depth rank : ℕ) (t : Target) → IsAlongLeaves k c d first s depth rank t → Reads d e s.number → IsAtLeaf k e.account s depth rank 14 t → IsNextLeaf k e f s next depth rank t → IsAlongLeaves k c f first next depth (rank + 1) t
+leaves_next k c d e f first s next depth rank t h reads end n = record {
+  leaf = n.leaf;
+  goes = goes_on 0 0 c e f (omega arith) (leaves_read k c d e first s depth rank t h reads) (goes_less 0 (s.number + 1) e f (omega arith) n.goes);
+  full = subst (λ (m : ℕ). AreFull f.account m (take depth t.codes) true (rank + 1)) (sym n.number)
+      (full_on k d.account e.account f.account s (take depth t.codes) rank true h.full (reads_goes s.number d e reads).stays end.at n.goes.stays);
+  number = (let now = n.number in let before = h.number in omega arith);
+}
+
+pub leaves_walked : (k : Shape) (a : Account) (s : Stop) (depth rank : ℕ) (t : Target) → IsAtLeaf k a s depth rank 14 t → rank + 1 ≡ k.chain → 2 ≤ k.chain → HasWalked a k.chain
+leaves_walked k a s depth rank t h end several = has_walked k a s (take depth t.codes) rank true h.at end several
+
+pub leaf_chain : (k : Shape) (a b : Account) (s : Stop) (depth rank : ℕ) (t : Target) → AreFull a s.number (take depth t.codes) true rank → ((j : ℕ) → j < s.number → shown_of (visited b.tree.reached j) ≡ shown_of (visited a.tree.reached j)) → IsAtLeaf k b s depth rank 14 t → rank + 1 ≡ k.chain → HasFullChain k b t.row
+leaf_chain k a b s depth rank t full same h end = record {
+  path = take depth t.codes;
+  leaf = true;
+  below = (drop depth t.codes, sym h.target.codes_are ∙ sym (take-append-drop depth t.codes));
+  full = all_full k a b s (take depth t.codes) rank true full same h.at end;
+  none = λ clash. absurd (let e : true ≡ false = clash in cc);
+}
+
+pub leaves_full : (k : Shape) (c d e f : Seated) (first s : Stop) (depth rank : ℕ) (t : Target) → IsAlongLeaves k c d first s depth rank t → Reads d e s.number → IsAtLeaf k e.account s depth rank 14 t → rank + 1 ≡ k.chain → f ≡ with_account e (after_answer e.account (ChainWasFull k.chain ∷ [])) → WasFullChain k c f t.row k.chain
+leaves_full k c d e f first s depth rank t h reads seven end after = chain_refused k 0 c e f t.row (leaves_read k c d e first s depth rank t h reads) (leaf_chain k d.account e.account s depth rank t h.full (reads_goes s.number d e reads).stays seven end) after

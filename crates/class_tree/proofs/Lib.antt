@@ -1,0 +1,11 @@
+mod Pages
+mod Finding
+mod Making
+mod Taking
+mod Grown
+mod Chain
+mod Searching
+mod Entering
+mod Leaves
+mod Behind
+mod Begun

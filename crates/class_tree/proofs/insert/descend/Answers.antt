@@ -1,0 +1,12 @@
+use Rattle.class_tree.proofs.Searching.{stops_on}
+use Rattle.class_tree.proofs.Begun.{first_depth, found_goes}
+use Rattle.class_tree.proofs.insert.descend.Goals as goal
+
+pub loop-depth-init : goal.loop-depth-init
+loop-depth-init c = record { at_depth = first_depth _ _ _ _ c.requires.down c.requires.number; stocked = c.requires.stocked; loader = c.requires.loader }
+
+pub returns-in-Err-clause-placed : goal.returns-in-Err-clause-placed
+returns-in-Err-clause-placed c = stops_on _ 0 _ c.loop-depth.caller _ _ _ c.loop-depth.invariant.at_depth.goes c.in-Err.ensures.found
+
+pub returns-in-Err-follow-clause-placed : goal.returns-in-Err-follow-clause-placed
+returns-in-Err-follow-clause-placed c = stops_on _ 0 _ c.find_code.new.caller _ _ _ (found_goes _ _ c.loop-depth.caller _ _ _ _ _ c.loop-depth.invariant.at_depth c.in-Ok.ensures.found) c.in-Err-follow.ensures.goes

@@ -1,0 +1,95 @@
+-- What the insertion of a row does to its caller (this project's own).
+use Rattle.std.specs.Prelude.{◌≡◌, ℕ, ◌<◌, ◌≤◌, Bool, false, List, [], ◌∷◌, ◌++◌, length}
+use Rattle.htss_defs.specs.declared.shape.Shape.{Shape}
+use Rattle.board_core.specs.declared.account.Account.{Account}
+use Rattle.board_core.specs.declared.entry.Entry.{Entry}
+use Rattle.board_core.specs.declared.entry.Entry.TheVariants.{NoPage as PageWanted, ChainFull as ChainWasFull}
+use Rattle.board_core.specs.declared.loads.Loads.{Loads}
+use Rattle.board_core.specs.declared.room.Row.{Row}
+use Rattle.board_core.specs.declared.tree.Reached.{Reached}
+use Rattle.board_core.specs.Each.{In}
+use Rattle.board_core.specs.ClassTree.{IsBelow, page_room}
+use Rattle.board_core.specs.KnownPages.{IsMate}
+use Rattle.board_core.specs.Loaded.{HasOwn}
+use Rattle.board_core.specs.MarkRule.{IsAmong}
+use Rattle.board_core.specs.Rows.{own_codes}
+use Rattle.board_core.specs.After.{noted, after_answer, after_unpin}
+use Rattle.board.specs.Seated.{Seated, with_account}
+use Rattle.page_pool.specs.Taking.{IsRefused}
+use Rattle.class_tree.specs.Loading.{code_loads}
+use Rattle.class_tree.specs.declared.insert.InsertError.{InsertError}
+use Rattle.class_tree.specs.declared.insert.InsertError.TheVariants.{NoPage, ChainFull}
+
+-- each own page is kept for later, at most 32 are, and no page is unlinked without a stamp
+pub record IsStocked (c : Seated) : Type 0 where
+  pub own : (q : ℕ) → HasOwn c.account q → IsAmong c.stock q
+  pub size : length c.stock ≤ 32
+  pub clean : c.account.pool.parted ≡ []
+
+-- what an insertion leaves, whatever it answers: the row is begun, its five codes were loaded, and the caller is unpinned. The log,
+-- the region, and what was loaded of the log and of blocks are as they were
+pub record HasBegun (k : Shape) (c d : Seated) (row : Row) : Type 0 where
+  pub who : d.account.who ≡ c.account.who
+  pub unpinned : d.account.pool.announced ≡ 0
+  pub begun : d.account.tree.begun ≡ c.account.tree.begun ++ row ∷ []
+  pub codes : d.account.loads.codes ≡ c.account.loads.codes ++ code_loads row 0 (own_codes k c.account row)
+  pub log : d.account.log ≡ c.account.log
+  pub room : d.account.room ≡ c.account.room
+  pub fronts : d.account.loads.fronts ≡ c.account.loads.fronts
+  pub shown : d.account.loads.shown ≡ c.account.loads.shown
+  pub heads : d.account.loads.heads ≡ c.account.loads.heads
+  pub marks : d.account.loads.marks ≡ c.account.loads.marks
+  pub facts : d.account.loads.facts ≡ c.account.loads.facts
+
+-- the row is placed, and nothing is answered
+pub record HasPlaced (c d : Seated) (row : Row) : Type 0 where
+  pub placed : d.account.tree.placed ≡ c.account.tree.placed ++ row ∷ []
+  pub entries : d.account.entries ≡ c.account.entries
+
+-- no row is placed, and this is answered
+pub record HasAnswered (c d : Seated) (e : Entry) : Type 0 where
+  pub placed : d.account.tree.placed ≡ c.account.tree.placed
+  pub loads : Loads
+  pub entries : d.account.entries ≡ c.account.entries ++ noted loads (e ∷ [])
+
+-- a page was wanted while the stock was empty, and the pool refused it; then the caller was unpinned
+pub record WantsPage (k : Shape) (c d : Seated) : Type 0 where
+  pub answered : HasAnswered c d PageWanted
+  pub before : Seated
+  pub empty : before.stock ≡ []
+  pub after : Seated
+  pub refused : IsRefused k before after
+  pub end : d ≡ with_account after (after_unpin after.account)
+  pub none : d.stock ≡ []
+
+-- no page that was reached in the inner chain of this path shows the code
+abbrev pub IsNowhere : List Reached → List ℕ → ℕ → Type 0
+IsNowhere reached path code = (y : Reached) → IsMate reached path false y → In code y.slots → ⊥
+
+-- the page of this rank in the chain of this path was reached, and all its slots are taken
+pub record WasFull (reached : List Reached) (path : List ℕ) (leaf : Bool) (rank : ℕ) : Type 0 where
+  pub page : Reached
+  pub mate : IsMate reached path leaf page
+  pub rank_is : page.rank ≡ rank
+  pub full : length page.slots ≡ page_room leaf
+
+-- each page that a chain may have was reached in a chain on the row's walk, and is full. In an inner chain none shows the row's code
+pub record HasFullChain (k : Shape) (a : Account) (row : Row) : Type 0 where
+  pub path : List ℕ
+  pub leaf : Bool
+  pub below : IsBelow path (own_codes k a row)
+  pub full : (rank : ℕ) → rank < k.chain → WasFull a.tree.reached path leaf rank
+  pub none : leaf ≡ false → (code : ℕ) → IsBelow (path ++ code ∷ []) (own_codes k a row) → IsNowhere a.tree.reached path code
+
+-- a chain on the row's walk was full; that is answered before the caller is unpinned
+pub record MetFullChain (k : Shape) (c d : Seated) (row : Row) (pages : ℕ) : Type 0 where
+  pub answered : HasAnswered c d (ChainWasFull pages)
+  pub all : pages ≡ k.chain
+  pub middle : Seated
+  pub chain : HasFullChain k middle.account row
+  pub end : d ≡ with_account middle (after_unpin (after_answer middle.account (ChainWasFull pages ∷ [])))
+
+-- why a row was not inserted
+abbrev pub IsRefusal : Shape → Seated → Seated → Row → InsertError → Type 0
+IsRefusal k c d row NoPage = WantsPage k c d
+IsRefusal k c d row (ChainFull pages) = MetFullChain k c d row pages

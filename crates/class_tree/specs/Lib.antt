@@ -1,0 +1,6 @@
+pub mod Loading
+pub mod Inserting
+pub mod Walking
+pub mod Stocked
+pub mod Refusing
+pub mod Linking

@@ -1,0 +1,63 @@
+-- What a walk comes to behind a link, and in a chain of leaves (this project's own).
+use Rattle.std.specs.Prelude.{◌≡◌, ℕ, ◌+◌, ◌<◌, ◌≤◌, Bool, false, take, Option, Some, None}
+use Rattle.htss_defs.specs.declared.shape.Shape.{Shape}
+use Rattle.board_core.specs.declared.account.Account.{Account}
+use Rattle.board.specs.Seated.{Seated}
+use Rattle.class_tree.specs.declared.link.Step.{Step}
+use Rattle.class_tree.specs.declared.link.Step.TheVariants.{Placed, Down}
+use Rattle.class_tree.specs.declared.walks.Stop.{Stop}
+use Rattle.class_tree.specs.declared.walks.Slot.{Slot}
+use Rattle.class_tree.specs.declared.walks.Target.{Target}
+use Rattle.class_tree.specs.Walking.{Goes, AreHigh, IsFresh, IsAt, IsTarget, IsDown, IsAtLeaf, Places}
+
+-- the next leaf of the chain, of which nothing is known
+pub record IsNextLeaf (k : Shape) (c d : Seated) (s next : Stop) (depth rank : ℕ) (t : Target) : Type 0 where
+  pub goes : Goes (s.number + 1) c d
+  pub number : next.number ≡ s.number + 1
+  pub leaf : IsAtLeaf k d.account next depth (rank + 1) 0 t
+
+-- the row was placed behind a full leaf, or the walk goes on at the next one
+abbrev pub GoesBehind : Shape → Seated → Seated → Stop → ℕ → ℕ → Target → Option Stop → Type 0
+GoesBehind k c d s depth rank t None = Places c d t.row
+GoesBehind k c d s depth rank t (Some next) = IsNextLeaf k c d s next depth rank t
+
+-- the walk stands behind a link, at a leaf or at the first page of an inner chain, of which nothing is known
+pub record IsBehind (k : Shape) (a : Account) (s : Stop) (depth : ℕ) (t : Target) : Type 0 where
+  pub leaf : Bool
+  pub at : IsAt k a s (take depth t.codes) 0 leaf 0
+  pub deep : depth ≤ 5
+  pub target : IsTarget k a t
+  pub fresh : leaf ≡ false → (code : ℕ) → IsFresh a (take depth t.codes) code
+  pub high : leaf ≡ false → AreHigh a depth
+
+pub record IsLed (k : Shape) (c d : Seated) (s next : Stop) (depth : ℕ) (t : Target) : Type 0 where
+  pub goes : Goes 0 c d
+  pub number : next.number ≡ s.number + 1
+  pub behind : IsBehind k d.account next (depth + 1) t
+
+-- the row was placed at the link, or the walk stands behind it
+abbrev pub GoesBelow : Shape → Seated → Seated → Slot → ℕ → Target → Option Stop → Type 0
+GoesBelow k c d x depth t None = Places c d t.row
+GoesBelow k c d x depth t (Some next) = IsLed k c d x.stop next depth t
+
+-- from behind a link the row was placed, or an inner chain is there, which goes on at a further depth
+pub record IsHigher (k : Shape) (c d : Seated) (s next : Stop) (depth : ℕ) (t : Target) : Type 0 where
+  pub same : d ≡ c
+  pub is : next ≡ s
+  pub low : depth < 5
+  pub down : IsDown k d.account s depth t
+
+abbrev pub GoesOn : Shape → Seated → Seated → Stop → ℕ → Target → Step → Type 0
+GoesOn k c d s depth t Placed = Places c d t.row
+GoesOn k c d s depth t (Down next) = IsHigher k c d s next depth t
+
+-- the row was placed, or the walk came one level down
+pub record ComesDown (k : Shape) (c d : Seated) (s next : Stop) (depth : ℕ) (t : Target) : Type 0 where
+  pub goes : Goes 0 c d
+  pub number : next.number ≡ s.number + 1
+  pub low : depth + 1 < 5
+  pub down : IsDown k d.account next (depth + 1) t
+
+abbrev pub FollowsTo : Shape → Seated → Seated → Slot → ℕ → Target → Step → Type 0
+FollowsTo k c d x depth t Placed = Places c d t.row
+FollowsTo k c d x depth t (Down next) = ComesDown k c d x.stop next depth t

@@ -1,0 +1,143 @@
+// Rows in one leaf, and in a chain of leaves.
+ghost use Rattle.std.specs.Prelude.{◌≡◌, ◌≢◌, ℕ, ◌+◌, ◌*◌, ◌<◌, ◌≤◌, ◌^◌, MatchResult, MatchBool};
+ghost use Rattle.board.specs.Seated.{IsOf, IsLoader, with_account};
+ghost use Rattle.board_core.specs.After.{after_slot, after_entry};
+ghost use Rattle.class_tree.specs.Inserting.{IsStocked};
+ghost use Rattle.class_tree.specs.Walking.{IsAtLeaf, Reads, Places, EntersRow};
+ghost use Rattle.class_tree.specs.Linking.{GoesBehind};
+ghost use Rattle.class_tree.specs.Refusing.{WasRefused, Stops};
+
+use crate::insert::{InsertError, refuse_chain};
+use crate::walks::{Stop, Target, header_word, make_page, stop_at};
+use board::{Board, Caller, claim_entry, link_next_leaf, load_more, load_slot};
+use page_pool::{NoPage, keep};
+
+// Reads the entry of this slot, or puts the row there: the answer is 0 where it did.
+fn enter(
+    board: &Board,
+    caller: &mut Caller,
+    at: Stop,
+    index: u8,
+    depth: u8,
+    rank: u32,
+    target: &Target,
+) -> u64
+    requires fits { IsOf board.now caller.old }
+    requires leaf { IsAtLeaf board.now.shape caller.old.account at depth rank index target.now }
+    requires room { index < 14 }
+    ensures placed { result ≡ 0 → EntersRow caller.old caller.new target.now.row }
+    ensures read { result ≢ 0 → caller.new ≡ with_account caller.old (after_slot caller.old.account at.number result) }
+{
+    let place = 2 + index;
+    let word = load_slot(board, caller, at.page, at.number, place);
+    if word != 0 {
+        return word;
+    }
+    claim_entry(
+        board,
+        caller,
+        at.page,
+        at.number,
+        place,
+        target.entry,
+        target.row,
+    )
+}
+
+// Puts the row into a free entry of the leaf, and says whether it did. Else the leaf is full.
+fn fill_leaf(
+    board: &Board,
+    caller: &mut Caller,
+    at: Stop,
+    depth: u8,
+    rank: u32,
+    target: &Target,
+) -> bool
+    requires fits { IsOf board.now caller.old }
+    requires leaf { IsAtLeaf board.now.shape caller.old.account at depth rank 0 target.now }
+    ensures placed { MatchBool result (EntersRow caller.old caller.new target.now.row)
+        (Reads caller.old caller.new at.number × IsAtLeaf board.now.shape caller.new.account at depth rank 14 target.now) }
+{
+    for index in 0..14u8 {
+        if enter(board, caller, at, index, depth, rank, target) == 0 {
+            return true;
+        }
+    }
+    false
+}
+
+// The leaf behind this one, which is full. Where there is none, one is made with the row.
+fn next_leaf(
+    board: &Board,
+    caller: &mut Caller,
+    at: Stop,
+    depth: u8,
+    rank: u32,
+    target: &Target,
+) -> Result<Option<Stop>, NoPage>
+    requires fits { IsOf board.now caller.old }
+    requires loader { IsLoader caller.old }
+    requires stocked { IsStocked caller.old }
+    requires leaf { IsAtLeaf board.now.shape caller.old.account at depth rank 14 target.now }
+    requires rank { (rank + 1 < board.now.shape.chain) × (rank + 1 < 2 ^ 16) }
+    requires number { at.number < 2 ^ 32 }
+    ensures of { IsOf board.now caller.new }
+    ensures loader { IsLoader caller.new }
+    ensures stocked { IsStocked caller.new }
+    ensures next { MatchResult result
+        (λ next. GoesBehind board.now.shape caller.old caller.new at depth rank target.now next)
+        (λ _. WasRefused board.now.shape caller.old caller.new) }
+{
+    let next = at.number + 1;
+    let word = load_more(board, caller, at.page, at.number);
+    if word != 0 {
+        return Ok(Some(stop_at(board, word, next)));
+    }
+    let header = header_word(true, depth, rank + 1);
+    let own = match make_page(board, caller, header, target.entry) {
+        Ok(own) => own,
+        Err(none) => return Err(none),
+    };
+    let found = link_next_leaf(board, caller, at.page, at.number, own, target.row);
+    if found == 0 {
+        return Ok(None);
+    }
+    keep(caller, own);
+    Ok(Some(stop_at(board, found, next)))
+}
+
+// Puts the row into the chain of leaves that begins at this leaf.
+pub(crate) fn fill_chain(
+    board: &Board,
+    caller: &mut Caller,
+    first: Stop,
+    depth: u8,
+    target: &Target,
+) -> Result<(), InsertError>
+    requires fits { IsOf board.now caller.old }
+    requires loader { IsLoader caller.old }
+    requires stocked { IsStocked caller.old }
+    requires leaf { IsAtLeaf board.now.shape caller.old.account first depth 0 0 target.now }
+    requires number { first.number ≤ 65536 * depth }
+    ensures of { IsOf board.now caller.new }
+    ensures loader { IsLoader caller.new }
+    ensures stocked { IsStocked caller.new }
+    ensures placed { MatchResult result (λ _. Places caller.old caller.new target.now.row) (λ e. Stops board.now.shape caller.old caller.new target.now.row e) }
+{
+    let chain = board.shape().chain;
+    let mut at = first;
+    for rank in 0..chain - 1 {
+        if fill_leaf(board, caller, at, depth, rank, target) {
+            return Ok(());
+        }
+        match next_leaf(board, caller, at, depth, rank, target) {
+            Ok(None) => return Ok(()),
+            Ok(Some(next)) => at = next,
+            Err(_) => return Err(InsertError::NoPage),
+        }
+    }
+    if fill_leaf(board, caller, at, depth, chain - 1, target) {
+        return Ok(());
+    }
+    Err(refuse_chain(board, caller))
+}

@@ -1,0 +1,12 @@
+//! Rows are put into the class tree: a tree of pages in which each row stands below its five codes, and which all loaders fill at once,
+//! without a lock, by single exchanges of words that are 0.
+#![tactic(auto)]
+
+mod find;
+mod insert;
+mod leaf;
+mod link;
+mod walks;
+
+pub use board_core::Row;
+pub use insert::{InsertError, insert_row};
