@@ -6,3 +6,4 @@ pub mod GroupsDone
 pub mod Heard
 pub mod Lasts
 pub mod Closed
+mod LateEvent

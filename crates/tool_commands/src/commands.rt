@@ -54,6 +54,7 @@ pub fn do_command<F: Shelf, K: Sink>(
 }
 
 // The text of `find`.
+#[inline(never)]
 fn find<'a, F: Shelf>(
     alloc: Global,
     sdf: &'a str,
@@ -76,6 +77,7 @@ fn find<'a, F: Shelf>(
 }
 
 // The lines of the refused records, and what a search of the others answers.
+#[inline(never)]
 fn find_hits<'a, F: Shelf>(
     alloc: Global,
     sdf: &'a str,
@@ -99,6 +101,7 @@ fn find_hits<'a, F: Shelf>(
 }
 
 // The text of `check`.
+#[inline(never)]
 fn check<'a, F: Shelf>(alloc: Global, sdf: &'a str, shelf: &mut F) -> Result<Vec<u8>, Stop<'a>>
     ensures text { IfOk result (λ text. IsCheckText (F.told shelf.old) sdf.now text.items) }
     ensures stop { IfErr result (λ stop. MayStop (check_of sdf.now)
@@ -116,6 +119,7 @@ fn check<'a, F: Shelf>(alloc: Global, sdf: &'a str, shelf: &mut F) -> Result<Vec
 }
 
 // The text of `codes`.
+#[inline(never)]
 fn codes<'a, F: Shelf>(alloc: Global, mol: &'a str, shelf: &mut F) -> Result<Vec<u8>, Stop<'a>>
     ensures text { IfOk result (λ text. IsCodesText (F.told shelf.old) mol.now text.items) }
     ensures stop { IfErr result (λ stop. MayStop (codes_of mol.now)
@@ -147,6 +151,7 @@ fn refused_text<'a>(alloc: Global, refusal: QueryRefusal) -> Result<Vec<u8>, Sto
 }
 
 // The query of the file with this name, or where it is refused.
+#[inline(never)]
 fn read_asked<'a, F: Shelf>(
     alloc: Global,
     name: &'a str,

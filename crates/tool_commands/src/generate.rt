@@ -21,6 +21,7 @@ const RECORD_SIZE: usize = 1391;
 
 /// Writes the file of so many records, 1 to 100,000, that are drawn from the seed, and answers the status: 0, 5 where a write
 /// failed, or 6 where memory ran out.
+#[inline(never)]
 pub fn make<K: Sink>(alloc: Global, count: u32, seed: u64, out: &mut K) -> u8
     requires { count ≤ 100000 }
     ensures ends { EndsUnread (make_of count seed false)
@@ -35,6 +36,7 @@ pub fn make<K: Sink>(alloc: Global, count: u32, seed: u64, out: &mut K) -> u8
 }
 
 /// Makes the file in memory and reads it back: the line on its records, and on those into which a ring of six carbons embeds.
+#[inline(never)]
 pub fn summary_of<'a>(alloc: Global, count: u32, seed: u64) -> Result<Vec<u8>, Stop<'a>>
     requires { count ≤ 100000 }
     ensures text { IfOk result (λ text. IsSummary count seed text.items) }
@@ -47,6 +49,7 @@ pub fn summary_of<'a>(alloc: Global, count: u32, seed: u64) -> Result<Vec<u8>, S
 }
 
 // The line on the made file.
+#[inline(never)]
 fn summary(alloc: Global, count: u32, seed: u64) -> Result<Vec<u8>, OutOfMemory>
     requires { count ≤ 100000 }
     ensures { IfOk result (λ text. IsSummary count seed text.items) }
