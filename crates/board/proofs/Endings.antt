@@ -6,7 +6,10 @@ use Rattle.htss_defs.specs.declared.shape.Shape.{Shape}
 use Rattle.board_core.specs.declared.account.View.{View}
 use Rattle.board_core.specs.Words.{Parts, parts_of}
 use Rattle.board_core.specs.Histories.{history_of}
+use Rattle.board_core.specs.Sheets.{sheet_of}
 use Rattle.board_core.proofs.Answered.{known, agree_all}
+use Rattle.board_core.proofs.ChainFrame.{tree_true}
+use Rattle.board_core.proofs.OldRows.{found_old}
 use Rattle.board.specs.Closed.{IsSettled, IsShown, Ends, closing}
 
 module _ (k : Shape) (ws : List ℕ) (v : View) (e : Ends k ws v) where
@@ -19,6 +22,7 @@ module _ (k : Shape) (ws : List ℕ) (v : View) (e : Ends k ws v) where
         stories = e.2.rule.stories.stories e.1 v e.3;
         rooms = e.2.rule.full e.1 v e.3;
         pages = e.2.rule.empty e.1 v e.3;
+        chains = λ j a there i n at. tree_true k (parts_of k e.0.words).pages (sheet_of (parts_of k e.0.words).pool.states e.0.views) n.entry (e.2.rule.chains e.1 v e.3 j a there i n at);
       })
 
   pub shown : IsShown (closing k ws v)
@@ -27,6 +31,7 @@ module _ (k : Shape) (ws : List ℕ) (v : View) (e : Ends k ws v) where
         words = p;
         shows = refl;
         may = λ j a there. record { known = known k p e.0.views e.2.rule; agrees = agree_all k p (history_of k p) e.0.views e.2.rule e.1 v e.3 j a there };
+        rows = λ n old. found_old k p (history_of k p) e.0.views n e.2.rule old;
       })
 
 -- what a list has at a place

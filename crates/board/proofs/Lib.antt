@@ -7,3 +7,4 @@ pub mod News
 pub mod Gathers
 pub mod Endings
 pub mod Closings
+pub mod StagedStays

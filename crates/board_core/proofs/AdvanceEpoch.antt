@@ -22,6 +22,7 @@ use Rattle.board_core.proofs.Stepped.{still, words_moved}
 use Rattle.board_core.proofs.OwnFrame.{own_same}
 use Rattle.board_core.proofs.Pooled.{linked_kept, tree_kept, by_pool}
 use Rattle.board_core.proofs.Changed.{set_epoch}
+use Rattle.board_core.proofs.OldMoved.{pin_here}
 
 -- the epoch is n then
 pub advance_pool : (k : Shape) (w : PoolWords) (vs : List View) (id e n : ℕ) (v : View) → PoolRule k w vs → get_elem? vs id ≡ some v → w.epoch ≤ n → e + 1 ≤ n → n ≤ last_epoch
@@ -44,6 +45,7 @@ advance k p h vs id e n v r at more come most = by_pool k p (record p.pool { epo
     (advance_pool k p.pool vs id e n v r.pool at more come most)
     (own_same p.pages vs id v (after_advance v.me e) r.own at refl)
     record { begun = refl; placed = refl }
+    (pin_here p.log.front vs id v r.pins at)
     (linked_kept p.pool.states vs id v (after_advance v.me e) at (λ _. refl) (λ _. refl))
     (tree_kept k p h vs id v (after_advance v.me e) r at refl (λ _. refl) (λ _. refl))
 

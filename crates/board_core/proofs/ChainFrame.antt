@@ -1,5 +1,5 @@
 -- Answers of a full chain: what a step leaves of them, and that they are true by what was read.
-use Rattle.std.proofs.Common.{◌≡◌, ◌≢◌, ℕ, zero, suc, ◌+◌, ◌<◌, ◌≤◌, Bool, true, false, List, [], ◌∷◌, ◌++◌, length, set, sym, refl, ap, ◌∙◌, subst, arith, ⊎_elim}
+use Rattle.std.proofs.Common.{◌≡◌, ◌≢◌, ℕ, zero, suc, ◌+◌, ◌*◌, ◌<◌, ◌≤◌, Bool, true, false, List, [], ◌∷◌, ◌++◌, length, set, sym, refl, ap, ◌∙◌, subst, arith, ⊎_elim}
 use mathlib.Core.Option.{some}
 use mathlib.Core.Logic.{dite}
 use native.Mathlib.Decide.{ℕ_discrete}
@@ -19,9 +19,9 @@ use Rattle.board_core.specs.Each.{Each, In}
 use Rattle.board_core.specs.Accounts.{with_me}
 use Rattle.board_core.specs.Truths.{entry_of}
 use Rattle.board_core.specs.Sheets.{Sheet, sheet_of, IsLinked, owns}
-use Rattle.board_core.specs.ClassTree.{Place, slot_at, page_room, at_way, PageStands, Tree}
+use Rattle.board_core.specs.ClassTree.{Place, kind_of, header_of, slot_at, page_room, at_way, PageStands, Tree}
 use Rattle.board_core.specs.KnownPages.{place_of, IsFullLeaf, KnowsPages}
-use Rattle.board_core.specs.ChainRule.{IsFullChain, IsTrueChain, ChainRule, IsToldChain}
+use Rattle.board_core.specs.ChainRule.{HasFullChain, IsTrueTree, IsTrueChain, ChainRule, IsToldChain}
 use Rattle.board_core.specs.After.{noted}
 use Rattle.board_core.proofs.Lists.{each_none, each_cons, each_append}
 use Rattle.board_core.proofs.Everyone.{mine, moved}
@@ -36,14 +36,22 @@ pub record KeepsPages (w u : ℕ → ℕ → ℕ) (s z : Sheet) : Type 0 where
   pub linked : (p : ℕ) → IsLinked s p → IsLinked z p
   pub words : (p i : ℕ) → IsLinked s p → w p i ≢ 0 → u p i ≡ w p i
 
-chain_later : (w u : ℕ → ℕ → ℕ) (s z : Sheet) (count : ℕ) → KeepsPages w u s z → IsFullChain w s count → IsFullChain u z count
-chain_later w u s z count e c = record {
-  leaf = c.leaf;
-  page = c.page;
-  linked = λ i h. e.linked (c.page i h) (c.linked i h);
-  full = λ i j h less none_here. c.full i j h less (sym (e.words (c.page i h) (slot_at c.leaf j) (c.linked i h) (c.full i j h less)) ∙ none_here);
-  next = λ i h g. e.words (c.page i h) 1 (c.linked i h) (c.more i h g) ∙ c.next i h g;
-  more = λ i h g none_here. c.more i h g (sym (e.words (c.page i h) 1 (c.linked i h) (c.more i h g)) ∙ none_here);
+some_kind : (leaf : Bool) (n m : ℕ) → kind_of leaf + n + m ≢ 0
+some_kind true n m e = omega arith
+some_kind false n m e = omega arith
+
+chain_later : (w u : ℕ → ℕ → ℕ) (s z : Sheet) (count : ℕ) → KeepsPages w u s z → HasFullChain w s count → HasFullChain u z count
+chain_later w u s z count e d = let c = d.chain in record {
+  chain = record {
+    leaf = c.leaf;
+    depth = c.depth;
+    page = c.page;
+    header = λ i h. e.words (c.page i h) 0 (d.linked i h) (λ none_here. some_kind c.leaf (4 * c.depth) (32 * i) (sym (c.header i h) ∙ none_here)) ∙ c.header i h;
+    full = λ i j h less none_here. c.full i j h less (sym (e.words (c.page i h) (slot_at c.leaf j) (d.linked i h) (c.full i j h less)) ∙ none_here);
+    next = λ i h g. e.words (c.page i h) 1 (d.linked i h) (c.more i h g) ∙ c.next i h g;
+    more = λ i h g none_here. c.more i h g (sym (e.words (c.page i h) 1 (d.linked i h) (c.more i h g)) ∙ none_here);
+  };
+  linked = λ i h. e.linked (c.page i h) (d.linked i h);
 }
 
 true_later : (k : Shape) (w u : ℕ → ℕ → ℕ) (s z : Sheet) → KeepsPages w u s z → (x : Entry) → IsTrueChain k w s x → IsTrueChain k u z x
@@ -57,6 +65,19 @@ true_later k w u s z e (LogFull front) t = tt
 true_later k w u s z e (DataFull left need) t = tt
 true_later k w u s z e NoPage t = tt
 true_later k w u s z e (Swept need front rows) t = tt
+
+-- by the words alone
+pub tree_true : (k : Shape) (w : ℕ → ℕ → ℕ) (s : Sheet) (x : Entry) → IsTrueChain k w s x → IsTrueTree k w x
+tree_true k w s (ChainFull pages) t = (t.0, t.1.chain)
+tree_true k w s (Published number event) t = tt
+tree_true k w s (Withdrawn number event) t = tt
+tree_true k w s (Answered query budget front reply) t = tt
+tree_true k w s (Unknown number front) t = tt
+tree_true k w s (Ended number at) t = tt
+tree_true k w s (LogFull front) t = tt
+tree_true k w s (DataFull left need) t = tt
+tree_true k w s NoPage t = tt
+tree_true k w s (Swept need front rows) t = tt
 
 abbrev AreTrueOf : Shape → (ℕ → ℕ → ℕ) → Sheet → List Noted → Type 0
 AreTrueOf k w s es = Each (λ n. IsTrueChain k w s n.entry) es
@@ -105,6 +126,9 @@ event_chain k w s number (Withdraw caller target) = each_cons (IsTrueChain k w s
 -- ---- a chain that was read to its last page
 
 module _ (w : ℕ → ℕ → ℕ) (s : Sheet) (m : ℕ → Place) (codes : ℕ → List ℕ) (placed : ℕ → Type 0) (t : Tree w s m codes placed) where
+  header_at : (P : Place) (leaf : Bool) (depth rank : ℕ) → P.leaf ≡ leaf → length P.path ≡ depth → P.rank ≡ rank → header_of P ≡ kind_of leaf + 4 * depth + 32 * rank
+  header_at P leaf depth rank kind path there = λ i. kind_of (kind i) + 4 * path i + 32 * there i
+
   -- the page that follows one of a chain
   next_in : (p q n : ℕ) → IsLinked s p → IsLinked s q → (m p).path ≡ (m q).path → (m p).rank ≡ n → (m q).rank ≡ suc n → w p 1 ≡ q
   next_in p q n l o path rank after =
@@ -115,7 +139,7 @@ module _ (w : ℕ → ℕ → ℕ) (s : Sheet) (m : ℕ → Place) (codes : ℕ 
       let same : f ≡ p = t.alone f p name.linked l (sym up.1 ∙ sym path) (up.2 ∙ sym rank) in
       ap (λ x. w x 1) (sym same) ∙ (ap (λ x. w f (at_way x)) (sym up.0) ∙ name.there)
 
-  chain_told : (rs : List Reached) (old : ℕ → Type 0) (k : KnowsPages w s m codes old rs) (y : Reached) → In y rs → (count : ℕ) → 1 < count → y.rank + 1 ≡ count → page_room y.leaf ≤ length y.slots → IsFullChain w s count
+  chain_told : (rs : List Reached) (old : ℕ → Type 0) (k : KnowsPages w s m codes old rs) (y : Reached) → In y rs → (count : ℕ) → 1 < count → y.rank + 1 ≡ count → page_room y.leaf ≤ length y.slots → HasFullChain w s count
   chain_told rs old k y there count several last full =
       let fits = k.fits there.0 y there.1 in
       let l : IsLinked s y.page = linked y.leaf refl in
@@ -127,16 +151,21 @@ module _ (w : ℕ → ℕ → ℕ) (s : Sheet) (m : ℕ → Place) (codes : ℕ 
       let next : (i : ℕ) (h : i < count) (g : i + 1 < count) → w (back i h).0 1 ≡ (back (i + 1) g).0 = λ i h g.
       next_in (back i h).0 (back (i + 1) g).0 i (back i h).1.linked (back (i + 1) g).1.linked ((back i h).1.path ∙ sym (back (i + 1) g).1.path) (back i h).1.rank ((back (i + 1) g).1.rank ∙ (let e : i + 1 ≡ suc i = omega arith in e)) in
       let slots : (j : ℕ) → j < page_room y.leaf → w y.page (slot_at y.leaf j) ≢ 0 = λ j less e. let f = has_at y.slots j (omega arith) in let g = fits.known j f.0 f.1 in g.0 (sym g.1 ∙ e) in record {
-        leaf = y.leaf;
-        page = λ i h. (back i h).0;
+        chain = record {
+          leaf = y.leaf;
+          depth = length y.path;
+          page = λ i h. (back i h).0;
+          header = λ i h. (t.pages (back i h).0 (back i h).1.linked).header ∙ header_at (m (back i h).0) y.leaf (length y.path) i ((back i h).1.kind ∙ kind)
+              (ap length ((back i h).1.path ∙ ap (λ (P : Place). P.path) place)) (back i h).1.rank;
+          full = λ i j h less none_here. dite (ℕ_discrete (i + 1) count)
+              (λ e. let same : (back i h).0 ≡ y.page = t.alone (back i h).0 y.page (back i h).1.linked l (back i h).1.path ((back i h).1.rank ∙ (let z : i ≡ (m y.page).rank = omega arith in z)) in
+              slots j less (ap (λ p. w p (slot_at y.leaf j)) (sym same) ∙ none_here))
+              (λ e. let page : PageStands (w (back i h).0) (m (back i h).0) = t.pages (back i h).0 (back i h).1.linked in
+              subst (λ (b : Bool). j < page_room b → w (back i h).0 (slot_at b j) ≢ 0) ((back i h).1.kind ∙ kind) (page.full (leads i h (omega arith)) j) less none_here);
+          next = next;
+          more = leads;
+        };
         linked = λ i h. (back i h).1.linked;
-        full = λ i j h less none_here. dite (ℕ_discrete (i + 1) count)
-            (λ e. let same : (back i h).0 ≡ y.page = t.alone (back i h).0 y.page (back i h).1.linked l (back i h).1.path ((back i h).1.rank ∙ (let z : i ≡ (m y.page).rank = omega arith in z)) in
-            slots j less (ap (λ p. w p (slot_at y.leaf j)) (sym same) ∙ none_here))
-            (λ e. let page : PageStands (w (back i h).0) (m (back i h).0) = t.pages (back i h).0 (back i h).1.linked in
-            subst (λ (b : Bool). j < page_room b → w (back i h).0 (slot_at b j) ≢ 0) ((back i h).1.kind ∙ kind) (page.full (leads i h (omega arith)) j) less none_here);
-        next = next;
-        more = leads;
       }
     where
       linked : (b : Bool) → y.leaf ≡ b → IsLinked s y.page

@@ -19,7 +19,7 @@ use Rattle.board_core.specs.Sheets.{Sheet, sheet_of, IsLinked}
 use Rattle.board_core.specs.Rows.{entry_word, codes_in, IsPlaced}
 use Rattle.board_core.specs.ClassTree.{Place, HasSlot, slot_at, page_room, IsBelow, Tree}
 use Rattle.board_core.specs.KnownPages.{place_of}
-use Rattle.board_core.specs.KnownRule.{no_rows}
+use Rattle.board_core.specs.OldRows.{IsOldRow}
 use Rattle.board_core.specs.Loaded.{page_word}
 use Rattle.board_core.specs.Holds.{Rule, Holds}
 use Rattle.board_core.specs.After.{visited}
@@ -103,12 +103,12 @@ claim_code k p h vs id j c v r at may word =
     (code_claimed w u s m codes (IsPlaced vs) x.page i c r.tree.tree condition put)) in
     let row = may.claim.row in
     by_tree k p u h vs id v a r at
-    record { who = refl; log = refl; room = refl; entries = refl; shown = refl; heads = refl; facts = refl; codes = refl; marks = refl }
+    record { who = refl; log = refl; room = refl; entries = refl; shown = refl; heads = refl; facts = refl; codes = refl; marks = refl } (λ q h. h) refl
     (pool_reaches k p.pool vs id v a.tree r.pool at (λ t y e. inl (same_held k p h vs id v r at j (with_slot c x) within (slot_page c x) (slot_leaf c x) t y e)))
     (own_linked p.pool.states w u vs id x.page (2 + 2 * i) c v a r.own at l put (omega arith) (mine (λ y. Each (OwnFits w) y.pool.own) vs id v at r.own))
     (rows_same k vs id v a r.rows at refl refl refl refl refl)
     (keeps_linked w u s z x.page (2 + 2 * i) c (λ y o. subst (λ (e : Sheet). IsLinked e y) (sym sheet) o) word put)
-    (link_tree k p.pool w u codes no_rows vs id v a x.page (2 + 2 * i) c m r.tree r.pool at record {
+    (link_tree k p.pool w u codes (IsOldRow k p.regions p.log.slots) vs id v a x.page (2 + 2 * i) c m r.tree r.pool at record {
       parted = refl;
       less = λ y. omega arith;
       begun = refl;
@@ -128,7 +128,7 @@ claim_code k p h vs id j c v r at may word =
           ))
           (λ (e : HasSlot w s m false t y b). inl e)
           (back w u s m codes (IsPlaced vs) x.page i c r.tree.tree condition put t y b (subst (λ (e : Sheet). HasSlot u e m false t y b) sheet g));
-      learns = λ o. law_slot u z m codes (IsPlaced ws) no_rows tree v.me.tree o j within c
+      learns = λ o. law_slot u z m codes (IsPlaced ws) (IsOldRow k p.regions p.log.slots) tree v.me.tree o j within c
           (subst (λ (b : Bool). u x.page (slot_at b i) ≡ c) (sym may.inner) put.here) may.unread room;
     })
 

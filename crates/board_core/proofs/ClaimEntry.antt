@@ -18,7 +18,7 @@ use Rattle.board_core.specs.Sheets.{Sheet, sheet_of, IsLinked}
 use Rattle.board_core.specs.Rows.{entry_word, codes_in, IsPlaced}
 use Rattle.board_core.specs.ClassTree.{Place, slot_at, page_room, IsBelow, Tree}
 use Rattle.board_core.specs.KnownPages.{place_of}
-use Rattle.board_core.specs.KnownRule.{no_rows}
+use Rattle.board_core.specs.OldRows.{IsOldRow}
 use Rattle.board_core.specs.Loaded.{page_word}
 use Rattle.board_core.specs.Holds.{Rule, Holds}
 use Rattle.board_core.specs.After.{visited}
@@ -41,6 +41,7 @@ use Rattle.board_core.proofs.Filled.{fills}
 use Rattle.board_core.proofs.PageLoads.{law_slot}
 use Rattle.board_core.proofs.LoadPage.{same_held, slot_page, slot_leaf}
 use Rattle.board_core.proofs.Claimed.{none_left}
+use Rattle.board_core.proofs.PageLoads.{in_left}
 
 pub claim_entry : (k : Shape) (p : Parts) (h : List Event) (vs : List View) (id j : ℕ) (q : Row) (v : View) → Rule k p h vs → get_elem? vs id ≡ some v → MayClaimEntry k v.me j q
     → p.pages (visited v.me.tree.reached j).page (2 + length (visited v.me.tree.reached j).slots) ≡ 0
@@ -77,12 +78,12 @@ claim_entry k p h vs id j q v r at may word =
       below = subst (λ (P : Place). IsBelow P.path (codes n)) (sym here) (row_below k p h vs id v r at q x.path may.row.begun may.row.below);
     } put rows) in
     by_tree k p u h vs id v a r at
-    record { who = refl; log = refl; room = refl; entries = refl; shown = refl; heads = refl; facts = refl; codes = refl; marks = refl }
+    record { who = refl; log = refl; room = refl; entries = refl; shown = refl; heads = refl; facts = refl; codes = refl; marks = refl } (λ y e. in_left v.me.tree.placed (q ∷ []) y e) refl
     (pool_reaches k p.pool vs id v a.tree r.pool at (λ t y e. inl (same_held k p h vs id v r at j (with_slot n x) within (slot_page n x) (slot_leaf n x) t y e)))
     (own_linked p.pool.states w u vs id x.page (2 + i) n v a r.own at l put (omega arith) (mine (λ y. Each (OwnFits w) y.pool.own) vs id v at r.own))
     (rows_placed k vs id v a (q ∷ []) r.rows at refl refl refl refl (each_cons (λ y. In y v.me.tree.begun) q [] may.row.begun (each_none (λ y. In y v.me.tree.begun))))
     (keeps_linked w u s z x.page (2 + i) n (λ y o. subst (λ (e : Sheet). IsLinked e y) (sym sheet) o) word put)
-    (link_tree k p.pool w u codes no_rows vs id v a x.page (2 + i) n m r.tree r.pool at record {
+    (link_tree k p.pool w u codes (IsOldRow k p.regions p.log.slots) vs id v a x.page (2 + i) n m r.tree r.pool at record {
       parted = refl;
       less = λ y. omega arith;
       begun = refl;
@@ -101,7 +102,7 @@ claim_entry k p h vs id j q v r at may word =
             some_n = g.some_n;
             there = sym (put.others y (2 + 2 * b) (inl (λ e. let clash : false ≡ true = sym g.kind ∙ ((λ f. (m (e f)).leaf) ∙ ((λ f. (here f).leaf) ∙ may.leaf)) in absurd cc))) ∙ g.there;
           };
-      learns = λ o. let told = law_slot u z m codes (IsPlaced ws) no_rows tree v.me.tree o j within n
+      learns = λ o. let told = law_slot u z m codes (IsPlaced ws) (IsOldRow k p.regions p.log.slots) tree v.me.tree o j within n
           (subst (λ (b : Bool). u x.page (slot_at b i) ≡ n) (sym may.leaf) put.here) may.unread (subst (λ (b : Bool). i < page_room b) (sym may.leaf) may.room) in
           record { known = told.known; kept = told.kept; pairs = told.pairs; olds = told.olds };
     })

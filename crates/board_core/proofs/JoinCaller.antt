@@ -1,4 +1,5 @@
 -- A seat is joined: a caller is gathered, and its account is kept as it was.
+use Rattle.std.proofs.Common.{◌≤◌}
 use Rattle.std.proofs.Common.{[], ◌≡◌, ◌≢◌, ℕ, List, set, sym, refl, ◌∙◌, arith}
 use mathlib.Core.Option.{some}
 use lib.ListN.{get_elem?}
@@ -35,13 +36,15 @@ use Rattle.atomic_table.proofs.Lists.{set_else}
 use Rattle.board_core.specs.Accounts.{made_by, is_opener, is_seat}
 use Rattle.board_core.proofs.Callers.{seat_none}
 use Rattle.board_core.specs.Rows.{codes_in}
-use Rattle.board_core.specs.KnownRule.{no_rows}
+use Rattle.board_core.specs.OldRows.{IsOldRow}
 use Rattle.board_core.proofs.RowFrame.{rows_gather, placed_begun}
 use Rattle.board_core.proofs.TreeFrame.{tree_gather}
 use Rattle.board_core.proofs.PoolSeats.{sheet_gather}
 use Rattle.board_core.specs.Sheets.{Sheet, sheet_of}
 use Rattle.board_core.specs.ChainRule.{IsTrueChain, ChainRule}
 use Rattle.std.proofs.Common.{sym, subst}
+use Rattle.board_core.proofs.PublishedFrame.{published_gather}
+use Rattle.board_core.proofs.OldMoved.{no_old}
 
 pub gather : (k : Shape) (p : Parts) (h : List Event) (vs : List View) (id other : ℕ) (v w : View) → Rule k p h vs → get_elem? vs id ≡ some v → ¬ (other ≡ id) → get_elem? vs other ≡ some w → Rule k p h (set (set vs id (keeping v w)) other gone)
 gather k p h vs id other v w r at apart there =
@@ -81,7 +84,9 @@ gather k p h vs id other v w r at apart there =
       own = own_gather p.pages vs id other v w r.own at there;
       pool = pool_gather k p.pool vs id other v w r.pool at apart there;
       rows = rows_gather k vs id other v w r.rows at there;
-      tree = tree_gather k p.pool.states p.pages (codes_in k p.regions) no_rows vs id other v w (λ _ o. o) (λ n. placed_begun k vs n r.rows) at apart there (sheet_gather p.pool.states vs id other v w at apart there) r.tree;
+      pins = each_gathered (λ x. x.tree.front ≤ p.log.front) vs id other v w at there (omega arith) r.pins;
+      published = published_gather k vs id other v w r.published at there;
+      tree = tree_gather k p.pool.states p.pages (codes_in k p.regions) (IsOldRow k p.regions p.log.slots) vs id other v w (no_old k p.regions p.log.slots) (λ n. placed_begun k vs n r.rows) at apart there (sheet_gather p.pool.states vs id other v w at apart there) r.tree;
       chains = subst (λ (x : Sheet). ChainRule k p.pages x all) (sym (sheet_gather p.pool.states vs id other v w at apart there)) (each_gathered (λ x. Each (λ e. IsTrueChain k p.pages (sheet_of p.pool.states vs) e.entry) x.entries) vs id other v w at there (each_none (λ e. IsTrueChain k p.pages (sheet_of p.pool.states vs) e.entry)) r.chains);
       empty = each_gathered (λ x. Each (λ e. IsTruePool k p.pool.states e.entry) x.entries) vs id other v w at there (each_none (λ e. IsTruePool k p.pool.states e.entry)) r.empty;
       loads = each_gathered (λ x. Each (LoadFits k p.log) x.loads.shown) vs id other v w at there (each_none (LoadFits k p.log)) r.loads;

@@ -43,7 +43,7 @@ use Rattle.atomic_table.proofs.Lists.{set_else}
 use Rattle.board_core.specs.Accounts.{made_by, is_opener, is_seat}
 use Rattle.board_core.proofs.Callers.{seat_none}
 use Rattle.board_core.specs.Rows.{codes_in}
-use Rattle.board_core.specs.KnownRule.{no_rows}
+use Rattle.board_core.specs.OldRows.{IsOldRow}
 use Rattle.board_core.proofs.RowFrame.{rows_left, placed_begun}
 use Rattle.board_core.proofs.TreeFrame.{tree_note_goes}
 use Rattle.board_core.proofs.PoolSeats.{sheet_note_goes}
@@ -51,6 +51,8 @@ use Rattle.board_core.proofs.ChainFrame.{chains_same}
 use Rattle.board_core.specs.Sheets.{Sheet, sheet_of}
 use Rattle.board_core.specs.ChainRule.{IsTrueChain, ChainRule}
 use Rattle.std.proofs.Common.{sym, subst}
+use Rattle.board_core.proofs.PublishedFrame.{published_left}
+use Rattle.board_core.proofs.OldMoved.{no_old}
 
 -- ---- a note's seat goes
 
@@ -106,7 +108,9 @@ note_goes k p h vs other front w r there is =
       own = own_left p.pages vs other r.own;
       pool = pool_note_goes k p.pool vs other front w r.pool there is;
       rows = rows_left k vs other r.rows;
-      tree = tree_note_goes k p.pool.states p.pages (codes_in k p.regions) no_rows vs other front w (λ _ o. o) (λ n. placed_begun k vs n r.rows) there is (sheet_note_goes p.pool.states vs other front w there is) r.tree;
+      pins = each_left (λ x. x.tree.front ≤ p.log.front) vs other (omega arith) r.pins;
+      published = published_left k vs other r.published;
+      tree = tree_note_goes k p.pool.states p.pages (codes_in k p.regions) (IsOldRow k p.regions p.log.slots) vs other front w (no_old k p.regions p.log.slots) (λ n. placed_begun k vs n r.rows) there is (sheet_note_goes p.pool.states vs other front w there is) r.tree;
       chains = subst (λ (x : Sheet). ChainRule k p.pages x (set vs other gone)) (sym (sheet_note_goes p.pool.states vs other front w there is)) (each_left (λ x. Each (λ e. IsTrueChain k p.pages (sheet_of p.pool.states vs) e.entry) x.entries) vs other (each_none (λ e. IsTrueChain k p.pages (sheet_of p.pool.states vs) e.entry)) r.chains);
       empty = each_left (λ x. Each (λ e. IsTruePool k p.pool.states e.entry) x.entries) vs other (each_none (λ e. IsTruePool k p.pool.states e.entry)) r.empty;
     }

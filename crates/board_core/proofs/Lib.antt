@@ -26,7 +26,10 @@ pub mod MarkFrame
 pub mod RecordFrame
 pub mod FactFrame
 pub mod RowFrame
+pub mod PublishedFrame
+pub mod OldMoved
 pub mod Walk
+pub mod RowWalk
 pub mod Seen
 pub mod KnownSteps
 pub mod Graft
@@ -50,6 +53,7 @@ pub mod MarkShow
 pub mod MarkSeats
 pub mod PoolSeats
 pub mod MarkKnown
+pub mod OldRows
 pub mod Answered
 pub mod Causes
 pub mod Grown

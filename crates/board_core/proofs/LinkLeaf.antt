@@ -20,7 +20,7 @@ use Rattle.board_core.specs.Rows.{entry_word, codes_in, IsPlaced}
 use Rattle.board_core.specs.Hang.{hung}
 use Rattle.board_core.specs.ClassTree.{Place, header_of, slot_at, page_room, IsBelow, Tree}
 use Rattle.board_core.specs.KnownPages.{place_of}
-use Rattle.board_core.specs.KnownRule.{no_rows}
+use Rattle.board_core.specs.OldRows.{IsOldRow}
 use Rattle.board_core.specs.Loaded.{page_word}
 use Rattle.board_core.specs.Holds.{Rule, Holds}
 use Rattle.board_core.specs.After.{visited, let_go, after_linked}
@@ -36,6 +36,7 @@ use Rattle.board_core.proofs.LoadPage.{known_here, link_allowed}
 use Rattle.board_core.proofs.Linked.{keeps_linked, put_is, with_at, at_here, at_else, turned_in, one_more, link_tree, Left}
 use Rattle.board_core.proofs.Claimed.{has_one, go_less, go_one, go_new, own_apart, own_busy, own_linked, rows_placed, own_row, row_below, row_free, some_entry}
 use Rattle.board_core.proofs.Treed.{by_tree, claim_allowed, page_past, busy_page}
+use Rattle.board_core.proofs.PageLoads.{in_left}
 
 pub link_leaf : (k : Shape) (p : Parts) (h : List Event) (vs : List View) (id j i c n : ℕ) (q : Row) (v : View) → Rule k p h vs → get_elem? vs id ≡ some v → MayLinkLeaf k v.me j i c n q
     → p.pages (visited v.me.tree.reached j).page (3 + 2 * i) ≡ 0 → ((t : ℕ) → 16 ≤ t → p.pages n t ≡ 0) → n ≢ 0
@@ -78,12 +79,12 @@ link_leaf k p h vs id j i c n q v r at may word past some_n =
       below = subst (λ (o : List ℕ). IsBelow o (codes (entry_word q))) (sym same_path) (row_below k p h vs id v r at q (x.path ++ c ∷ []) may.row.begun may.row.below);
     } put turn (go_one n v.me.pool.own) (go_new n v.me.pool.own may.new.own) places placed_at rows in
     by_tree k p u h vs id v a r at
-    record { who = refl; log = refl; room = refl; entries = refl; shown = refl; heads = refl; facts = refl; codes = refl; marks = refl }
+    record { who = refl; log = refl; room = refl; entries = refl; shown = refl; heads = refl; facts = refl; codes = refl; marks = refl } (λ y e. in_left v.me.tree.placed (q ∷ []) y e) refl
     (pool_links k p.pool vs id v (let_go n v.me.pool.own) v.me.pool.parted a.tree r.pool at (none_parted s v.me (let_go n v.me.pool.own) (go_less n v.me.pool.own)) refl)
     (own_linked p.pool.states w u vs id x.page (3 + 2 * i) n v a r.own at l put (go_less n v.me.pool.own x.page) (each_without (OwnFits w) (λ o. o.page) n v.me.pool.own (mine (λ y. Each (OwnFits w) y.pool.own) vs id v at r.own)))
     (rows_placed k vs id v a (q ∷ []) r.rows at refl refl refl refl (each_cons (λ y. In y v.me.tree.begun) q [] may.row.begun (each_none (λ y. In y v.me.tree.begun))))
     (keeps_linked w u s z x.page (3 + 2 * i) n (λ y o. turn.stays y o (r.tree.tree.numbered y o)) word put)
-    (link_tree k p.pool w u codes no_rows vs id v a x.page (3 + 2 * i) n new r.tree r.pool at record {
+    (link_tree k p.pool w u codes (IsOldRow k p.regions p.log.slots) vs id v a x.page (3 + 2 * i) n new r.tree r.pool at record {
       parted = refl;
       less = go_less n v.me.pool.own;
       begun = refl;

@@ -24,7 +24,7 @@ use Rattle.board_core.specs.Rows.{entry_word, codes_in, IsBegun, IsPlaced}
 use Rattle.board_core.specs.Turns.{Turns}
 use Rattle.board_core.specs.ClassTree.{Place, HasSlot, header_of, slot_at, page_room, IsBelow, Tree}
 use Rattle.board_core.specs.KnownPages.{place_of}
-use Rattle.board_core.specs.KnownRule.{no_rows}
+use Rattle.board_core.specs.OldRows.{IsOldRow}
 use Rattle.board_core.specs.Loaded.{page_word}
 use Rattle.board_core.specs.Holds.{Rule, Holds}
 use Rattle.board_core.specs.After.{visited, let_go, after_linked}
@@ -57,6 +57,7 @@ use Rattle.board_core.proofs.Seen.{has_at}
 use Rattle.board_core.proofs.Chained.{chains}
 use Rattle.board_core.proofs.TreeFrame.{rows_stay, placed_split}
 use Rattle.board_core.proofs.ClaimCode.{chain_absent}
+use Rattle.board_core.proofs.PageLoads.{in_left}
 
 module _ (k : Shape) (p : Parts) (h : List Event) (vs : List View) (id j n word : ℕ) (v : View) (r : Rule k p h vs) (at : get_elem? vs id ≡ some v) (may : MayLinkNext k v.me j n word)
     (zero_word : p.pages (visited v.me.tree.reached j).page 1 ≡ 0) (past : (t : ℕ) → 16 ≤ t → p.pages n t ≡ 0) (some_n : n ≢ 0) (some_word : word ≢ 0) where
@@ -133,8 +134,8 @@ module _ (k : Shape) (p : Parts) (h : List Event) (vs : List View) (id j n word 
     next_tree : a.tree.begun ≡ v.me.tree.begun → a.tree.reached ≡ v.me.tree.reached → a.tree.front ≡ v.me.tree.front → ((y : ℕ) → IsPlaced vs y → IsPlaced (set vs id (with_me v a)) y)
         → Tree u (sheet_of p.pool.states (set vs id (with_me v a))) new codes (IsPlaced (set vs id (with_me v a)))
         → ((x.leaf ≡ false) → (y : ℕ) × IsBegun vs y × IsBelow (x.path ++ word ∷ []) (codes y))
-        → TreeRule k p.pool.states u codes no_rows (set vs id (with_me v a))
-    next_tree begun reached front placed tree claimed = link_tree k p.pool p.pages u codes no_rows vs id v a x.page 1 n new r.tree r.pool at record {
+        → TreeRule k p.pool.states u codes (IsOldRow k p.regions p.log.slots) (set vs id (with_me v a))
+    next_tree begun reached front placed tree claimed = link_tree k p.pool p.pages u codes (IsOldRow k p.regions p.log.slots) vs id v a x.page 1 n new r.tree r.pool at record {
       parted = parted;
       less = less;
       begun = begun;
@@ -159,14 +160,14 @@ module _ (k : Shape) (p : Parts) (h : List Event) (vs : List View) (id j n word 
           let c = claimed kind in
           inr (c.0, c.1, subst (λ (e : List ℕ × ℕ). IsBelow (e.0 ++ e.1 ∷ []) (codes c.0)) (λ f. ((sym (ap (λ (P : Place). P.path) at_new ∙ ap (λ (P : Place). P.path) here)) f, code f)) c.2))
           (turn.either y g.linked);
-      learns = λ o. subst (λ (e : ℕ × List Reached). Knows u (sheet_of p.pool.states (set vs id (with_me v a))) new codes (IsPlaced (set vs id (with_me v a))) no_rows record { front = e.0; reached = e.1; begun = a.tree.begun; placed = a.tree.placed })
+      learns = λ o. subst (λ (e : ℕ × List Reached). Knows u (sheet_of p.pool.states (set vs id (with_me v a))) new codes (IsPlaced (set vs id (with_me v a))) (IsOldRow k p.regions p.log.slots) record { front = e.0; reached = e.1; begun = a.tree.begun; placed = a.tree.placed })
           (λ i. (sym front i, sym reached i)) record { known = o.known; kept = o.kept; pairs = o.pairs; olds = o.olds };
     }
 
     -- with the other parts
-    next_rule : LeavesLog v.me a → held_in a.tree.reached ≡ held_in v.me.tree.reached → a ≡ after_links v.me (let_go n v.me.pool.own) v.me.pool.parted a.tree → RowRule k (set vs id (with_me v a))
-        → TreeRule k p.pool.states u codes no_rows (set vs id (with_me v a)) → Rule k (record p { pages = u }) h (set vs id (with_me v a))
-    next_rule rest held is rows tree = by_tree k p u h vs id v a r at rest
+    next_rule : LeavesLog v.me a → ((y : Row) → In y v.me.tree.placed → In y a.tree.placed) → a.tree.front ≡ v.me.tree.front → held_in a.tree.reached ≡ held_in v.me.tree.reached → a ≡ after_links v.me (let_go n v.me.pool.own) v.me.pool.parted a.tree → RowRule k (set vs id (with_me v a))
+        → TreeRule k p.pool.states u codes (IsOldRow k p.regions p.log.slots) (set vs id (with_me v a)) → Rule k (record p { pages = u }) h (set vs id (with_me v a))
+    next_rule rest more front held is rows tree = by_tree k p u h vs id v a r at rest more front
         (subst (λ (b : Account). PoolRule k p.pool (set vs id (with_me v b))) (sym is)
         (pool_links k p.pool vs id v (let_go n v.me.pool.own) v.me.pool.parted a.tree r.pool at (none_parted s v.me (let_go n v.me.pool.own) (go_less n v.me.pool.own)) held))
         (own_linked p.pool.states p.pages u vs id x.page 1 n v a r.own at l (put_is p.pages x.page 1 n) (less x.page)
@@ -211,7 +212,7 @@ link_more_leaf k p h vs id j n q v r at may zero_word past some_n =
     ))
     (λ y g. ⊎_elim (λ (o : IsPlaced vs y). inl o) (λ (o : y ≡ entry_word q). inr (is_leaf, o)) (rows.all y g)) in
     next_rule k p h vs id j n (entry_word q) v r at may.may zero_word past some_n some_word a refl refl l
-    record { who = refl; log = refl; room = refl; entries = refl; shown = refl; heads = refl; facts = refl; codes = refl; marks = refl } refl refl
+    record { who = refl; log = refl; room = refl; entries = refl; shown = refl; heads = refl; facts = refl; codes = refl; marks = refl } (λ y e. in_left v.me.tree.placed (q ∷ []) y e) refl refl refl
     (rows_placed k vs id v a (q ∷ []) r.rows at refl refl refl refl (each_cons (λ y. In y v.me.tree.begun) q [] may.row.begun (each_none (λ y. In y v.me.tree.begun))))
     (next_tree k p h vs id j n (entry_word q) v r at may.may zero_word past some_n some_word a refl refl l refl refl refl rows.old tree (λ inner. absurd (let clash : true ≡ false = sym may.leaf ∙ inner in cc)))
 
@@ -246,7 +247,7 @@ link_inner k p h vs id j n c v r at may zero_word past some_n =
     (λ leaf. absurd (let clash : true ≡ false = sym leaf ∙ (ap (λ (P : Place). P.leaf) place ∙ may.inner) in cc))
     (λ y g. inl (⊎_elim (λ (o : IsPlaced vs y). o) (λ (o : HasRow y v.me.tree.placed). (id, v, at, 0, v.me, refl, o)) (placed_split vs id v a at y g))) in
     next_rule k p h vs id j n c v r at may.may zero_word past some_n some_word a refl refl l
-    record { who = refl; log = refl; room = refl; entries = refl; shown = refl; heads = refl; facts = refl; codes = refl; marks = refl } refl refl
+    record { who = refl; log = refl; room = refl; entries = refl; shown = refl; heads = refl; facts = refl; codes = refl; marks = refl } (λ y e. e) refl refl refl
     (rows_same k vs id v a r.rows at refl refl refl refl refl)
     (next_tree k p h vs id j n c v r at may.may zero_word past some_n some_word a refl refl l refl refl refl placed tree
     (λ _. (entry_word row, (id, v, at, 0, v.me, refl, (row, may.claim.begun, refl)), row_below k p h vs id v r at row (x.path ++ c ∷ []) may.claim.begun may.claim.below)))

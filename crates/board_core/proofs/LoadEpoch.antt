@@ -27,6 +27,7 @@ use Rattle.board_core.proofs.PoolFrame.{KeepsHeld, pool_moved, each_both, each_g
 use Rattle.board_core.proofs.Stepped.{still}
 use Rattle.board_core.proofs.OwnFrame.{own_same}
 use Rattle.board_core.proofs.Pooled.{linked_kept, tree_kept, by_pool}
+use Rattle.board_core.proofs.OldMoved.{pin_here}
 
 -- what a page's stamp becomes
 Stamped : (s t : Sheet) → ℕ → ℕ → Type 0
@@ -90,6 +91,7 @@ load_epoch k p h vs id v r at = by_pool k p p.pool h vs id v (after_epoch v.me p
     (epoch_pool k p.pool vs id v r.pool at)
     (own_same p.pages vs id v (after_epoch v.me p.pool.epoch) r.own at refl)
     record { begun = refl; placed = refl }
+    (pin_here p.log.front vs id v r.pins at)
     (linked_kept p.pool.states vs id v (after_epoch v.me p.pool.epoch) at (λ _. refl) (λ q. parts_stamped p.pool.epoch q v.me.pool.parted))
     (tree_kept k p h vs id v (after_epoch v.me p.pool.epoch) r at refl (λ _. refl) (λ q. parts_stamped p.pool.epoch q v.me.pool.parted))
 

@@ -20,7 +20,8 @@ use Rattle.board_core.specs.RoomRule.{store_of, own_block, IsSealed, RoomFits}
 use Rattle.board_core.specs.FactRule.{FactRule, CodeStands, IsCodeOf, BlocksStand, AreOfBlocks, word_at}
 use Rattle.board_core.specs.Sheets.{Sheet, sheet_of}
 use Rattle.board_core.specs.Rows.{entry_word, code_of, codes_in, words_of, RowFits, IsOwnRow, RowsFit, RowRule, HasRow, IsBegun, IsPlaced}
-use Rattle.board_core.specs.KnownRule.{Knows, no_rows}
+use Rattle.board_core.specs.KnownRule.{Knows}
+use Rattle.board_core.specs.OldRows.{IsOldRow}
 use Rattle.board_core.specs.TreeRule.{TreeRule}
 use Rattle.board_core.specs.Holds.{Rule, Holds}
 use Rattle.board_core.specs.After.{after_code, after_begun}
@@ -134,12 +135,12 @@ pub begin_row : (k : Shape) (p : Parts) (h : List Event) (vs : List View) (id : 
 begin_row k p h vs id q v r at fits =
     let a : Account = after_begun v.me q in
     by_tree k p p.pages h vs id v a r at
-    record { who = refl; log = refl; room = refl; entries = refl; shown = refl; heads = refl; facts = refl; codes = refl; marks = refl }
+    record { who = refl; log = refl; room = refl; entries = refl; shown = refl; heads = refl; facts = refl; codes = refl; marks = refl } (λ q h. h) refl
     (pool_reaches k p.pool vs id v a.tree r.pool at (λ j x e. inl (j, e)))
     (own_same p.pages vs id v a r.own at refl)
     (begin_rows k vs id q v r.rows at fits)
     (same_pages p.pages (sheet_of p.pool.states vs) (sheet_of p.pool.states (set vs id (with_me v a))) (linked_kept p.pool.states vs id v a at (λ _. refl) (λ _. refl)))
-    (begin_tree k p.pool.states p.pages (codes_in k p.regions) no_rows vs id q v at (λ n. placed_begun k vs n r.rows) r.tree)
+    (begin_tree k p.pool.states p.pages (codes_in k p.regions) (IsOldRow k p.regions p.log.slots) vs id q v at (λ n. placed_begun k vs n r.rows) r.tree)
 
 pub begin : (k : Shape) (p : Parts) (h : List Event) (vs : List View) (id code : ℕ) (q : Row) (v : View) → Rule k p h vs → get_elem? vs id ≡ some v → IsOwnRow k v.me q → code < 5
     → Rule k p h (set vs id (with_me v (after_begun (after_code v.me q code (code_of (block_at k p.regions q.block) q.atom code)) q)))

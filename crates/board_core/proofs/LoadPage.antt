@@ -20,7 +20,8 @@ use Rattle.board_core.specs.MarkRule.{IsAmong}
 use Rattle.board_core.specs.Rows.{codes_in, IsPlaced}
 use Rattle.board_core.specs.ClassTree.{slot_at, page_room, header_of, PageStands}
 use Rattle.board_core.specs.KnownPages.{place_of}
-use Rattle.board_core.specs.KnownRule.{Knows, no_rows}
+use Rattle.board_core.specs.KnownRule.{Knows}
+use Rattle.board_core.specs.OldRows.{IsOldRow}
 use Rattle.board_core.specs.Loaded.{IsPage, page_word, IsVisit}
 use Rattle.board_core.specs.Holds.{Rule, Holds}
 use Rattle.board_core.specs.After.{visited, with_reached, with_slot, with_link, with_more, led, next_of, after_slot, after_link, after_more}
@@ -74,17 +75,17 @@ slot_leaf (suc n) x = refl
 module _ (k : Shape) (p : Parts) (h : List Event) (vs : List View) (id : ℕ) (v : View) (r : Rule k p h vs) (at : get_elem? vs id ≡ some v) where
   -- what the caller knows is told anew, and what it newly holds is linked
   knows_more : (rs : List Reached) → ((j q : ℕ) → get_elem? (held_in rs) j ≡ some q → IsAmong (held_in v.me.tree.reached) q ⊎ ((0 < v.me.pool.announced) × IsLinked (sheet_of p.pool.states vs) q))
-      → Knows p.pages (sheet_of p.pool.states vs) r.tree.place (codes_in k p.regions) (IsPlaced vs) no_rows (record v.me.tree { reached = rs }) → Rule k p h (set vs id (with_me v (with_reached v.me rs)))
+      → Knows p.pages (sheet_of p.pool.states vs) r.tree.place (codes_in k p.regions) (IsPlaced vs) (IsOldRow k p.regions p.log.slots) (record v.me.tree { reached = rs }) → Rule k p h (set vs id (with_me v (with_reached v.me rs)))
   knows_more rs news knows = let a : Account = with_reached v.me rs in by_tree k p p.pages h vs id v a r at
-      record { who = refl; log = refl; room = refl; entries = refl; shown = refl; heads = refl; facts = refl; codes = refl; marks = refl }
+      record { who = refl; log = refl; room = refl; entries = refl; shown = refl; heads = refl; facts = refl; codes = refl; marks = refl } (λ q h. h) refl
       (pool_reaches k p.pool vs id v (record v.me.tree { reached = rs }) r.pool at news)
       (own_same p.pages vs id v a r.own at refl)
       (rows_same k vs id v a r.rows at refl refl refl refl refl)
       (same_pages p.pages (sheet_of p.pool.states vs) (sheet_of p.pool.states (set vs id (with_me v a))) (linked_kept p.pool.states vs id v a at (λ _. refl) (λ _. refl)))
-      (tree_told k p.pool.states p.pages (codes_in k p.regions) no_rows vs id v a at (λ _. refl) refl refl refl (λ n. placed_begun k vs n r.rows) r.tree knows)
+      (tree_told k p.pool.states p.pages (codes_in k p.regions) (IsOldRow k p.regions p.log.slots) vs id v a at (λ _. refl) refl refl refl (λ n. placed_begun k vs n r.rows) r.tree knows)
 
-  pub known_here : Knows p.pages (sheet_of p.pool.states vs) r.tree.place (codes_in k p.regions) (IsPlaced vs) no_rows v.me.tree
-  known_here = mine (λ x. Knows p.pages (sheet_of p.pool.states vs) r.tree.place (codes_in k p.regions) (IsPlaced vs) no_rows x.tree) vs id v at r.tree.known
+  pub known_here : Knows p.pages (sheet_of p.pool.states vs) r.tree.place (codes_in k p.regions) (IsPlaced vs) (IsOldRow k p.regions p.log.slots) v.me.tree
+  known_here = mine (λ x. Knows p.pages (sheet_of p.pool.states vs) r.tree.place (codes_in k p.regions) (IsPlaced vs) (IsOldRow k p.regions p.log.slots) x.tree) vs id v at r.tree.known
 
   -- the same leaves are held
   pub same_held : (j : ℕ) (y : Reached) → j < length v.me.tree.reached → y.page ≡ (visited v.me.tree.reached j).page → y.leaf ≡ (visited v.me.tree.reached j).leaf
@@ -92,7 +93,7 @@ module _ (k : Shape) (p : Parts) (h : List Event) (vs : List View) (id : ℕ) (v
   same_held j y within page leaf i q e = (i, sym (ap (λ l. get_elem? l i) (held_set v.me.tree.reached j (visited v.me.tree.reached j) y (at_visit v.me.tree.reached j within) page leaf)) ∙ e)
 
   pub load_header : (j : ℕ) → j < length v.me.tree.reached → p.pages (visited v.me.tree.reached j).page 0 ≡ header_of (place_of (visited v.me.tree.reached j))
-  load_header j within = law_header p.pages (sheet_of p.pool.states vs) r.tree.place (codes_in k p.regions) (IsPlaced vs) no_rows r.tree.tree v.me.tree known_here j within
+  load_header j within = law_header p.pages (sheet_of p.pool.states vs) r.tree.place (codes_in k p.regions) (IsPlaced vs) (IsOldRow k p.regions p.log.slots) r.tree.tree v.me.tree known_here j within
 
   -- an inner page stands above depth 5
   pub inner_high : (j : ℕ) → j < length v.me.tree.reached → (visited v.me.tree.reached j).leaf ≡ false → length (visited v.me.tree.reached j).path < 5
@@ -107,53 +108,53 @@ module _ (k : Shape) (p : Parts) (h : List Event) (vs : List View) (id : ℕ) (v
       let within = may.visit.reached in
       knows_more (set v.me.tree.reached j (with_slot n (visited v.me.tree.reached j)))
       (λ i q e. inl (same_held j (with_slot n (visited v.me.tree.reached j)) within (slot_page n (visited v.me.tree.reached j)) (slot_leaf n (visited v.me.tree.reached j)) i q e))
-      (law_slot p.pages (sheet_of p.pool.states vs) r.tree.place (codes_in k p.regions) (IsPlaced vs) no_rows r.tree.tree v.me.tree known_here j within n word may.unread may.room)
+      (law_slot p.pages (sheet_of p.pool.states vs) r.tree.place (codes_in k p.regions) (IsPlaced vs) (IsOldRow k p.regions p.log.slots) r.tree.tree v.me.tree known_here j within n word may.unread may.room)
 
   pub load_link : (j i c n : ℕ) → MayLoadLink k v.me j i c → p.pages (visited v.me.tree.reached j).page (3 + 2 * i) ≡ n → Rule k p h (set vs id (with_me v (after_link v.me j i c n (r.tree.place n).leaf)))
   load_link j i c zero may word =
       let within = may.visit.reached in
       let x : Reached = visited v.me.tree.reached j in
       knows_more (set v.me.tree.reached j (with_link i Absent x)) (λ t q e. inl (same_held j (with_link i Absent x) within refl refl t q e))
-      (law_link_none p.pages (sheet_of p.pool.states vs) r.tree.place (codes_in k p.regions) (IsPlaced vs) no_rows r.tree.tree v.me.tree known_here j within i c may.inner may.code may.not_zero may.unread word)
+      (law_link_none p.pages (sheet_of p.pool.states vs) r.tree.place (codes_in k p.regions) (IsPlaced vs) (IsOldRow k p.regions p.log.slots) r.tree.tree v.me.tree known_here j within i c may.inner may.code may.not_zero may.unread word)
   load_link j i c (suc n) may word =
       let within = may.visit.reached in
       let x : Reached = visited v.me.tree.reached j in
       let z : Reached = led x i c (suc n) (r.tree.place (suc n)).leaf in
-      let l = link_linked p.pages (sheet_of p.pool.states vs) r.tree.place (codes_in k p.regions) (IsPlaced vs) no_rows r.tree.tree v.me.tree known_here j within i c may.inner may.code may.not_zero may.unread (suc n) word (λ e. omega arith) in
+      let l = link_linked p.pages (sheet_of p.pool.states vs) r.tree.place (codes_in k p.regions) (IsPlaced vs) (IsOldRow k p.regions p.log.slots) r.tree.tree v.me.tree known_here j within i c may.inner may.code may.not_zero may.unread (suc n) word (λ e. omega arith) in
       knows_more (set v.me.tree.reached j (with_link i (To (suc n)) x) ++ z ∷ [])
       (λ t q e. ⊎_elim
       (λ (o : IsAmong (held_in (set v.me.tree.reached j (with_link i (To (suc n)) x))) q). inl (same_held j (with_link i (To (suc n)) x) within refl refl o.0 q o.1))
       (λ (o : q ≡ z.page). inr (may.pinned, subst (λ (y : ℕ). IsLinked (sheet_of p.pool.states vs) y) (sym o) l))
       (held_snoc (set v.me.tree.reached j (with_link i (To (suc n)) x)) z t q e))
-      (law_link p.pages (sheet_of p.pool.states vs) r.tree.place (codes_in k p.regions) (IsPlaced vs) no_rows r.tree.tree v.me.tree known_here j within i c may.inner may.code may.not_zero may.unread (suc n) word (λ e. omega arith))
+      (law_link p.pages (sheet_of p.pool.states vs) r.tree.place (codes_in k p.regions) (IsPlaced vs) (IsOldRow k p.regions p.log.slots) r.tree.tree v.me.tree known_here j within i c may.inner may.code may.not_zero may.unread (suc n) word (λ e. omega arith))
 
   pub load_more : (j n : ℕ) → MayLoadMore k v.me j → p.pages (visited v.me.tree.reached j).page 1 ≡ n → Rule k p h (set vs id (with_me v (after_more v.me j n)))
   load_more j zero may word =
       let within = may.visit.reached in
       let x : Reached = visited v.me.tree.reached j in
       knows_more (set v.me.tree.reached j (with_more Absent x)) (λ t q e. inl (same_held j (with_more Absent x) within refl refl t q e))
-      (law_more_none p.pages (sheet_of p.pool.states vs) r.tree.place (codes_in k p.regions) (IsPlaced vs) no_rows r.tree.tree v.me.tree known_here j within may.full may.not_zero word)
+      (law_more_none p.pages (sheet_of p.pool.states vs) r.tree.place (codes_in k p.regions) (IsPlaced vs) (IsOldRow k p.regions p.log.slots) r.tree.tree v.me.tree known_here j within may.full may.not_zero word)
   load_more j (suc n) may word =
       let within = may.visit.reached in
       let x : Reached = visited v.me.tree.reached j in
       let z : Reached = next_of x (suc n) in
-      let l = (next_linked p.pages (sheet_of p.pool.states vs) r.tree.place (codes_in k p.regions) (IsPlaced vs) no_rows r.tree.tree v.me.tree known_here j within may.full may.not_zero (suc n) word (λ e. omega arith)).0 in
+      let l = (next_linked p.pages (sheet_of p.pool.states vs) r.tree.place (codes_in k p.regions) (IsPlaced vs) (IsOldRow k p.regions p.log.slots) r.tree.tree v.me.tree known_here j within may.full may.not_zero (suc n) word (λ e. omega arith)).0 in
       knows_more (set v.me.tree.reached j (with_more (To (suc n)) x) ++ z ∷ [])
       (λ t q e. ⊎_elim
       (λ (o : IsAmong (held_in (set v.me.tree.reached j (with_more (To (suc n)) x))) q). inl (same_held j (with_more (To (suc n)) x) within refl refl o.0 q o.1))
       (λ (o : q ≡ z.page). inr (may.pinned, subst (λ (y : ℕ). IsLinked (sheet_of p.pool.states vs) y) (sym o) l))
       (held_snoc (set v.me.tree.reached j (with_more (To (suc n)) x)) z t q e))
-      (law_more p.pages (sheet_of p.pool.states vs) r.tree.place (codes_in k p.regions) (IsPlaced vs) no_rows r.tree.tree v.me.tree known_here j within may.full may.not_zero (suc n) word (λ e. omega arith))
+      (law_more p.pages (sheet_of p.pool.states vs) r.tree.place (codes_in k p.regions) (IsPlaced vs) (IsOldRow k p.regions p.log.slots) r.tree.tree v.me.tree known_here j within may.full may.not_zero (suc n) word (λ e. omega arith))
 
   -- where a link or the next page leads
   pub link_leads : (j i c n : ℕ) → MayLoadLink k v.me j i c → p.pages (visited v.me.tree.reached j).page (3 + 2 * i) ≡ n → n ≢ 0 → p.pool.states n ≢ 0
   link_leads j i c n may word some_n free =
-      let l = link_linked p.pages (sheet_of p.pool.states vs) r.tree.place (codes_in k p.regions) (IsPlaced vs) no_rows r.tree.tree v.me.tree known_here j may.visit.reached i c may.inner may.code may.not_zero may.unread n word some_n in
+      let l = link_linked p.pages (sheet_of p.pool.states vs) r.tree.place (codes_in k p.regions) (IsPlaced vs) (IsOldRow k p.regions p.log.slots) r.tree.tree v.me.tree known_here j may.visit.reached i c may.inner may.code may.not_zero may.unread n word some_n in
       let one : p.pool.states n ≡ 1 = l.busy in omega arith
 
   pub more_leads : (j n : ℕ) → MayLoadMore k v.me j → p.pages (visited v.me.tree.reached j).page 1 ≡ n → n ≢ 0 → (p.pool.states n ≢ 0) × ((visited v.me.tree.reached j).rank + 1 < k.chain)
   more_leads j n may word some_n =
-      let l = next_linked p.pages (sheet_of p.pool.states vs) r.tree.place (codes_in k p.regions) (IsPlaced vs) no_rows r.tree.tree v.me.tree known_here j may.visit.reached may.full may.not_zero n word some_n in
+      let l = next_linked p.pages (sheet_of p.pool.states vs) r.tree.place (codes_in k p.regions) (IsPlaced vs) (IsOldRow k p.regions p.log.slots) r.tree.tree v.me.tree known_here j may.visit.reached may.full may.not_zero n word some_n in
       let one : p.pool.states n ≡ 1 = l.0.busy in
       let rank = l.1 in
       let most = r.tree.ranks n l.0 in (λ none. omega arith, omega arith)

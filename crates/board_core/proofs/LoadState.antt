@@ -25,6 +25,7 @@ use Rattle.board_core.proofs.PoolFrame.{pool_claim, claim_here, held_here, scans
 use Rattle.board_core.proofs.Stepped.{still}
 use Rattle.board_core.proofs.OwnFrame.{own_same}
 use Rattle.board_core.proofs.Pooled.{linked_kept, tree_kept, by_pool, state_at}
+use Rattle.board_core.proofs.OldMoved.{pin_here}
 
 -- an account that has loaded more of states, which all stand
 pub loads_pool : (k : Shape) (w : PoolWords) (vs : List View) (id : ℕ) (v : View) (l : Loads) → PoolRule k w vs → get_elem? vs id ≡ some v → l.epochs ≡ v.me.loads.epochs → StatesStand w.states l → PoolRule k w (set vs id (with_me v (record v.me { loads = l })))
@@ -50,6 +51,7 @@ load_state k p h vs id q v r at =
     record { seen = each_snoc (λ x. x.word ≢ 0 → p.pool.states x.page ≢ 0) v.me.loads.states (record { page = q; word = p.pool.states q }) (λ busy. busy) own.seen; lost = own.lost })
     (own_same p.pages vs id v (a) r.own at refl)
     record { begun = refl; placed = refl }
+    (pin_here p.log.front vs id v r.pins at)
     (linked_kept p.pool.states vs id v (a) at (λ _. refl) (λ _. refl))
     (tree_kept k p h vs id v (a) r at refl (λ _. refl) (λ _. refl))
 
@@ -65,6 +67,7 @@ lose_state k p h vs id q v r at busy_now =
     record { seen = own.seen; lost = each_snoc (λ x. p.pool.states x.page ≢ 0) v.me.loads.lost (record { page = q; word = p.pool.states q }) busy_now own.lost })
     (own_same p.pages vs id v (a) r.own at refl)
     record { begun = refl; placed = refl }
+    (pin_here p.log.front vs id v r.pins at)
     (linked_kept p.pool.states vs id v (a) at (λ _. refl) (λ _. refl))
     (tree_kept k p h vs id v (a) r at refl (λ _. refl) (λ _. refl))
 

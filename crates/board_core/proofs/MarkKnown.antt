@@ -47,7 +47,7 @@ has_marks k p vs i r rooms behind kind =
     let f = r.marks j u there n a here b s in_list in subst (HasMarks k p vs) place record { first = f.first; last = f.last }
 
 -- a log word behind the front shows its own block
-shows_here : (p : Parts) (i : ℕ) → i < p.log.front → ¬ (kind_in (p.log.slots i) ≡ 2) → ShowsAt p.log.front p.log.slots (target_in (p.log.slots i)) (i + 1)
+pub shows_here : (p : Parts) (i : ℕ) → i < p.log.front → ¬ (kind_in (p.log.slots i) ≡ 2) → ShowsAt p.log.front p.log.slots (target_in (p.log.slots i)) (i + 1)
 shows_here p i behind kind = let back : i + 1 - 1 ≡ i = omega arith in record {
   above = omega arith;
   within = omega arith;

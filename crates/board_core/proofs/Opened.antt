@@ -7,7 +7,7 @@ use Rattle.board_core.specs.declared.account.Who.TheVariants.{Opener, Gone}
 use Rattle.board_core.specs.Each.{Each}
 use Rattle.board_core.specs.Words.{Parts, parts_of, total_of, log_at, pages_at}
 use Rattle.board_core.specs.Rows.{codes_in}
-use Rattle.board_core.specs.KnownRule.{no_rows}
+use Rattle.board_core.specs.OldRows.{IsOldRow}
 use Rattle.board_core.proofs.RowFrame.{rows_open}
 use Rattle.board_core.proofs.TreeFrame.{tree_open}
 use Rattle.std.proofs.Common.{Bool, true, false, cond, nat_lt}
@@ -41,6 +41,8 @@ use Rattle.board_core.proofs.Events.{event_within}
 use Rattle.htss_defs.specs.declared.history.Event.TheVariants.{Withdraw}
 use Rattle.board_core.specs.Sheets.{sheet_of}
 use Rattle.board_core.specs.ChainRule.{IsTrueChain}
+use Rattle.board_core.proofs.PublishedFrame.{published_open}
+use Rattle.board_core.proofs.OldMoved.{no_old}
 
 blank_at : (n i : ℕ) → get_or (zeros n) i 0 ≡ 0
 blank_at zero i = refl
@@ -190,7 +192,9 @@ legal_none = record { earlier = λ number target w. absurd (no_withdrawal number
 open_rule : (k : Shape) (p : Parts) → p.log.front ≡ 0 → p.log.lock ≡ 0 → ((i : ℕ) → p.log.slots i ≡ 0) → OpensPool p.pool → OpensTree p → 0 < k.chain → Rule k p [] (opener k ∷ [])
 open_rule k p front lock slots pool tree some_chain = record {
   rows = rows_open k;
-  tree = tree_open k p.pool.states p.pages (codes_in k p.regions) no_rows (λ _ o. o) some_chain tree.head tree.blank tree.first tree.only;
+  pins = only (λ x. x.tree.front ≤ p.log.front) k (account (Opener 0) 0) (omega arith);
+  published = published_open k;
+  tree = tree_open k p.pool.states p.pages (codes_in k p.regions) (IsOldRow k p.regions p.log.slots) (no_old k p.regions p.log.slots) some_chain tree.head tree.blank tree.first tree.only;
   seats = record {
     shapes = each_cons (λ (u : View). u.me.who ≢ Gone → u.shape ≡ k) (opener k) [] (λ _. refl) (each_none (λ (u : View). u.me.who ≢ Gone → u.shape ≡ k));
     limits = only (λ x. WhoFits k x.who) k (account (Opener 0) 0) (omega arith);

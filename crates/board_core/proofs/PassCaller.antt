@@ -28,6 +28,7 @@ use Rattle.board_core.proofs.Stepped.{still}
 use Rattle.board_core.proofs.Stored.{part_at}
 use Rattle.board_core.proofs.OwnFrame.{own_same}
 use Rattle.board_core.proofs.Pooled.{linked_kept, tree_kept, by_pool}
+use Rattle.board_core.proofs.OldMoved.{pin_here}
 
 lower_most : (low n : ℕ) → lower low n ≤ low
 lower_most low n = dite (ℕ_discrete n 0) (λ z. let e = ap (λ b. cond b low (min low n)) (eq-eqb n 0 z) in omega arith) (λ z. let e = ap (λ b. cond b low (min low n)) (ne_eqb n 0 z) in omega arith)
@@ -69,6 +70,7 @@ pass k p h vs id i v r at here = by_pool k p p.pool h vs id v (after_pass v.me (
     (pass_pool k p.pool vs id i v r.pool at here)
     (own_same p.pages vs id v (after_pass v.me (p.pool.announced i)) r.own at refl)
     record { begun = refl; placed = refl }
+    (pin_here p.log.front vs id v r.pins at)
     (linked_kept p.pool.states vs id v (after_pass v.me (p.pool.announced i)) at (λ _. refl) (λ _. refl))
     (tree_kept k p h vs id v (after_pass v.me (p.pool.announced i)) r at refl (λ _. refl) (λ _. refl))
 

@@ -17,7 +17,7 @@ use Rattle.board_core.specs.OwnRule.{OwnRule}
 use Rattle.board_core.specs.Sheets.{sheet_of, IsLinked, owns, parts}
 use Rattle.board_core.specs.Accounts.{total}
 use Rattle.board_core.specs.Rows.{codes_in}
-use Rattle.board_core.specs.KnownRule.{no_rows}
+use Rattle.board_core.specs.OldRows.{IsOldRow}
 use Rattle.board_core.specs.TreeRule.{TreeRule}
 use Rattle.board_core.specs.Holds.{Rule}
 use Rattle.board_core.proofs.Everyone.{total_same}
@@ -37,6 +37,9 @@ use Rattle.board_core.proofs.Stored.{part_at}
 use Rattle.board_core.proofs.Changed.{set_state}
 use Rattle.board_core.specs.declared.room.RoomAccount.{RoomAccount}
 use Rattle.board_core.proofs.ChainFrame.{chains_later, same_pages}
+use Rattle.board_core.specs.declared.log.LogAccount.{LogAccount}
+use Rattle.board_core.proofs.PublishedFrame.{published_same}
+use Rattle.board_core.proofs.OldMoved.{no_old, pins_same}
 
 -- the step leaves all that is not of the pool, the tree or the counts
 pub record LeavesLog (a b : Account) : Type 0 where
@@ -58,8 +61,8 @@ pub record SameRows (a b : Account) : Type 0 where
 -- where the same pages are linked, and the caller knows of the tree what it knew
 pub tree_stays : (k : Shape) (p : Parts) (h : List Event) (g : ℕ → ℕ) (vs : List View) (id : ℕ) (v : View) (a : Account) → Rule k p h vs → get_elem? vs id ≡ some v → a.tree ≡ v.me.tree
     → ((q : ℕ) → IsLinked (sheet_of p.pool.states vs) q → IsLinked (sheet_of g (set vs id (with_me v a))) q) → ((q : ℕ) → IsLinked (sheet_of g (set vs id (with_me v a))) q → IsLinked (sheet_of p.pool.states vs) q)
-    → TreeRule k g p.pages (codes_in k p.regions) no_rows (set vs id (with_me v a))
-tree_stays k p h g vs id v a r at same more less = tree_lifted k p.pool.states g p.pages (codes_in k p.regions) (codes_in k p.regions) no_rows no_rows vs (set vs id (with_me v a)) (λ j u spot i x there r o. o) (λ _ o. o) more less
+    → TreeRule k g p.pages (codes_in k p.regions) (IsOldRow k p.regions p.log.slots) (set vs id (with_me v a))
+tree_stays k p h g vs id v a r at same more less = tree_lifted k p.pool.states g p.pages (codes_in k p.regions) (codes_in k p.regions) (IsOldRow k p.regions p.log.slots) (IsOldRow k p.regions p.log.slots) vs (set vs id (with_me v a)) (λ j u spot i x there r o. o) (no_old k p.regions p.log.slots) more less
     (λ _ _. refl) (λ n. placed_begun k vs n r.rows) (lift_same vs id v a at same) (keeps_same vs id v a at same) r.tree
 
 -- where no page's numbers change
@@ -72,7 +75,7 @@ linked_kept f vs id v a at own parted q l = record {
 }
 
 pub tree_kept : (k : Shape) (p : Parts) (h : List Event) (vs : List View) (id : ℕ) (v : View) (a : Account) → Rule k p h vs → get_elem? vs id ≡ some v → a.tree ≡ v.me.tree
-    → ((q : ℕ) → owns q a.pool.own ≡ owns q v.me.pool.own) → ((q : ℕ) → parts q a.pool.parted ≡ parts q v.me.pool.parted) → TreeRule k p.pool.states p.pages (codes_in k p.regions) no_rows (set vs id (with_me v a))
+    → ((q : ℕ) → owns q a.pool.own ≡ owns q v.me.pool.own) → ((q : ℕ) → parts q a.pool.parted ≡ parts q v.me.pool.parted) → TreeRule k p.pool.states p.pages (codes_in k p.regions) (IsOldRow k p.regions p.log.slots) (set vs id (with_me v a))
 tree_kept k p h vs id v a r at same own parted =
     let o : (q : ℕ) → total (λ x. owns q x.pool.own) (set vs id (with_me v a)) ≡ total (λ x. owns q x.pool.own) vs = λ q. total_same (λ x. owns q x.pool.own) vs id v a at (own q) in
     let u : (q : ℕ) → total (λ x. parts q x.pool.parted) (set vs id (with_me v a)) ≡ total (λ x. parts q x.pool.parted) vs = λ q. total_same (λ x. parts q x.pool.parted) vs id v a at (parted q) in
@@ -82,8 +85,9 @@ tree_kept k p h vs id v a r at same own parted =
 
 -- a step of the pool, after which no page is free that was not. All other parts are framed here
 pub by_pool : (k : Shape) (p : Parts) (w : PoolWords) (h : List Event) (vs : List View) (id : ℕ) (v : View) (a : Account) → Rule k p h vs → get_elem? vs id ≡ some v → LeavesLog v.me a
-    → ((q : ℕ) → p.pool.states q ≢ 0 → w.states q ≢ 0) → PoolRule k w (set vs id (with_me v a)) → OwnRule p.pages (set vs id (with_me v a)) → SameRows v.me a → ((q : ℕ) → IsLinked (sheet_of p.pool.states vs) q → IsLinked (sheet_of w.states (set vs id (with_me v a))) q) → TreeRule k w.states p.pages (codes_in k p.regions) no_rows (set vs id (with_me v a)) → Rule k (record p { pool = w }) h (set vs id (with_me v a))
-by_pool k p w h vs id v a r at rest busy pool own alike linked tree = record {
+    → ((q : ℕ) → p.pool.states q ≢ 0 → w.states q ≢ 0) → PoolRule k w (set vs id (with_me v a)) → OwnRule p.pages (set vs id (with_me v a)) → SameRows v.me a → a.tree.front ≤ p.log.front → ((q : ℕ) → IsLinked (sheet_of p.pool.states vs) q → IsLinked (sheet_of w.states (set vs id (with_me v a))) q) → TreeRule k w.states p.pages (codes_in k p.regions) (IsOldRow k p.regions p.log.slots) (set vs id (with_me v a)) → Rule k (record p { pool = w }) h (set vs id (with_me v a))
+by_pool k p w h vs id v a r at rest busy pool own alike pinned linked tree = record {
+  pins = pins_same p.log.front p.log.front vs id v a r.pins at (omega arith) pinned;
   chains = chains_later k p.pages p.pages (sheet_of p.pool.states vs) (sheet_of w.states (set vs id (with_me v a))) vs id v a r.chains at (same_pages p.pages (sheet_of p.pool.states vs) (sheet_of w.states (set vs id (with_me v a))) linked) rest.entries;
   seats = seats_same k vs id v a r.seats at rest.who;
   log = log_same k p.log h vs id v a r.log at (λ i. record { who = rest.who i; log = rest.log i });
@@ -98,6 +102,7 @@ by_pool k p w h vs id v a r at rest busy pool own alike linked tree = record {
   own = own;
   empty = empty_later k p.pool.states w.states vs id v a r.empty at busy rest.entries;
   rows = rows_same k vs id v a r.rows at rest.who (ap (λ (x : RoomAccount). x.used) rest.room) (ap (λ (x : RoomAccount). x.sealed) rest.room) alike.begun alike.placed;
+  published = published_same k vs id v a r.published at rest.who (ap (λ (x : RoomAccount). x.used) rest.room) (ap (λ (x : RoomAccount). x.published) rest.room) (ap (λ (x : LogAccount). x.pending.shows) rest.log) alike.placed;
   tree = tree;
 }
 

@@ -32,8 +32,9 @@ use Rattle.board_core.proofs.Pooled.{tree_stays, by_pool, put_state}
 use Rattle.board_core.proofs.TakePage.{page_same, page_kept, never_free, states_kept}
 use Rattle.board_core.specs.Sheets.{IsLinked}
 use Rattle.board_core.specs.Rows.{codes_in}
-use Rattle.board_core.specs.KnownRule.{no_rows}
+use Rattle.board_core.specs.OldRows.{IsOldRow}
 use Rattle.board_core.specs.TreeRule.{TreeRule}
+use Rattle.board_core.proofs.OldMoved.{pin_here}
 
 -- ---- whose the page is
 
@@ -126,7 +127,7 @@ retire_linked k w vs id q n v r at may x l =
 
 -- the same pages are linked: the page was somebody's, and has a stamp now
 retire_tree : (k : Shape) (p : Parts) (h : List Event) (vs : List View) (id q n : ℕ) (v : View) → Rule k p h vs → get_elem? vs id ≡ some v → MayRetire k v.me q n
-    → TreeRule k (stored p.pool.states q (n + 1)) p.pages (codes_in k p.regions) no_rows (set vs id (with_me v (after_retire v.me q)))
+    → TreeRule k (stored p.pool.states q (n + 1)) p.pages (codes_in k p.regions) (IsOldRow k p.regions p.log.slots) (set vs id (with_me v (after_retire v.me q)))
 retire_tree k p h vs id q n v r at may =
     let a : Account = v.me in
     let b : Account = after_retire a q in
@@ -150,6 +151,7 @@ retire_page k p h vs id q n v r at may = by_pool k p (record p.pool { states = s
     (retire_pool k p.pool vs id q n v r.pool at may)
     (own_retired p.pages vs id q v r.own at)
     record { begun = refl; placed = refl }
+    (pin_here p.log.front vs id v r.pins at)
     (retire_linked k p.pool vs id q n v r.pool at may)
     (retire_tree k p h vs id q n v r at may)
 

@@ -53,6 +53,7 @@ use Rattle.board_core.proofs.Shown.{history_grown, caller_shown, may_follow}
 use Rattle.board_core.proofs.RowFrame.{rows_same}
 use Rattle.board_core.specs.Sheets.{sheet_of}
 use Rattle.board_core.proofs.ChainFrame.{chains_more, event_chain}
+use Rattle.board_core.proofs.PublishedFrame.{published_event}
 
 shown_holds : (w u : LogWords) (a : Account) (e : Event) → u.lock ≡ w.lock → u.front ≡ w.front + 1 → a.log.holding ≡ Fronted → HoldsLock w (hand_of a) a.log.holding → HoldsLock u (hand_of (after_event a e)) a.log.holding
 shown_holds w u a e lock front held holds = let own = owner w (hand_of a) a.log.holding held holds in
@@ -203,7 +204,9 @@ show_event k p vs id word v e r at may is =
     (records_same k vs id v (after_event v.me e) r.records at refl (kept_used v.me.log.pending.shows v.me.room) (kept_sealed v.me.log.pending.shows v.me.room))
     (facts_same k p.regions p.log.front (p.log.front + 1) vs id v (after_event v.me e) r.facts at (kept_sealed v.me.log.pending.shows v.me.room) record { heads = refl; facts = refl; codes = refl; marks = refl } (omega arith))
     (rows_same k vs id v (after_event v.me e) r.rows at refl (kept_used v.me.log.pending.shows v.me.room) (kept_sealed v.me.log.pending.shows v.me.room) refl refl)
+    (published_event k vs id v (after_event v.me e) r.published at refl (kept_used v.me.log.pending.shows v.me.room) refl refl refl)
     (λ j u there i x here b s in_list t _ _ _. refl)
+    record { front = omega arith; slots = λ i _. refl }
 
 pub show_allowed : (k : Shape) (slots id n word : ℕ) (m : Mine) (e : Event) → n ≡ m.0.me.log.seen + 1 → MayShowEvent m.0.me word → event_by k m.0.me word ≡ e → Allows (Holds k) slots id m 0 (λ _. n) (λ _. ShowsEvent e (step slots 0 n 0 none) m n)
 show_allowed k slots id n word m e is may knows s h _ at _ =

@@ -1,4 +1,5 @@
 -- A seat is split: the opener makes the next caller.
+use Rattle.std.proofs.Common.{◌≤◌}
 use Rattle.std.proofs.Common.{◌≡◌, ◌≢◌, ℕ, ◌+◌, ◌<◌, List, [], ◌∷◌, ◌++◌, set, sym, refl, ap, ◌∙◌, subst, arith}
 use mathlib.Core.Option.{some}
 use mathlib.Core.Logic.{dite}
@@ -41,13 +42,15 @@ use Rattle.board_core.specs.Accounts.{made_by, is_opener, is_seat, seat_of, call
 use Rattle.board_core.specs.After.{after_made}
 use Rattle.board_core.proofs.Callers.{seat_none, seat_this, seat_that, seat_after, fits_after, none_after, own_after, made_is}
 use Rattle.board_core.specs.Rows.{codes_in}
-use Rattle.board_core.specs.KnownRule.{no_rows}
+use Rattle.board_core.specs.OldRows.{IsOldRow}
 use Rattle.board_core.proofs.RowFrame.{rows_caller, placed_begun}
 use Rattle.board_core.proofs.TreeFrame.{tree_caller}
 use Rattle.board_core.proofs.PoolSeats.{sheet_caller}
 use Rattle.board_core.specs.Sheets.{Sheet, sheet_of}
 use Rattle.board_core.specs.ChainRule.{IsTrueChain, ChainRule}
 use Rattle.std.proofs.Common.{sym, subst}
+use Rattle.board_core.proofs.PublishedFrame.{published_caller}
+use Rattle.board_core.proofs.OldMoved.{no_old, pins_same, pin_here}
 
 -- the sums, where one view was changed and one added
 split_total : (f : Account → ℕ) (vs : List View) (id : ℕ) (v : View) (a : Account) (n : View) → get_elem? vs id ≡ some v → n.kept ≡ [] → total f (set vs id (with_me v a) ++ n ∷ []) + f v.me ≡ total f vs + f a + f n.me
@@ -160,7 +163,9 @@ caller k p h vs id m v r at is shape room = record {
   own = own_caller p.pages k vs id m v r.own at;
   pool = pool_caller k p.pool vs id m v r.seats r.pool at is;
   rows = rows_caller k vs id m v r.rows at is;
-  tree = tree_caller k p.pool.states p.pages (codes_in k p.regions) no_rows vs id m v (λ _ o. o) (λ n. placed_begun k vs n r.rows) at (sheet_caller p.pool.states k vs id m v at) r.tree;
+  pins = each_more (λ x. x.tree.front ≤ p.log.front) (set vs id (left_of v)) (account (caller_after k m) 0) (right_of k m) refl refl (omega arith) (pins_same p.log.front p.log.front vs id v (after_made v.me) r.pins at (omega arith) (pin_here p.log.front vs id v r.pins at));
+  published = published_caller k vs id m v r.published at is;
+  tree = tree_caller k p.pool.states p.pages (codes_in k p.regions) (IsOldRow k p.regions p.log.slots) vs id m v (no_old k p.regions p.log.slots) (λ n. placed_begun k vs n r.rows) at (sheet_caller p.pool.states k vs id m v at) r.tree;
   chains = subst (λ (x : Sheet). ChainRule k p.pages x (set vs id (left_of v) ++ right_of k m ∷ [])) (sym (sheet_caller p.pool.states k vs id m v at)) (each_more (λ x. Each (λ e. IsTrueChain k p.pages (sheet_of p.pool.states vs) e.entry) x.entries) (set vs id (left_of v)) (account (caller_after k m) 0) (right_of k m) refl refl (each_none (λ e. IsTrueChain k p.pages (sheet_of p.pool.states vs) e.entry))
       (changed (λ x. Each (λ e. IsTrueChain k p.pages (sheet_of p.pool.states vs) e.entry) x.entries) vs id v (after_made v.me) at (mine (λ x. Each (λ e. IsTrueChain k p.pages (sheet_of p.pool.states vs) e.entry) x.entries) vs id v at r.chains) r.chains));
   empty = each_more (λ x. Each (λ e. IsTruePool k p.pool.states e.entry) x.entries) (set vs id (left_of v)) (account (caller_after k m) 0) (right_of k m) refl refl (each_none (λ e. IsTruePool k p.pool.states e.entry))

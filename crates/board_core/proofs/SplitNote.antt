@@ -37,13 +37,15 @@ use Rattle.board_core.proofs.LogFrame.{hand_at, quiet_fits}
 use Rattle.board_core.specs.Accounts.{made_by, is_opener, is_seat}
 use Rattle.board_core.proofs.Callers.{seat_none}
 use Rattle.board_core.specs.Rows.{codes_in}
-use Rattle.board_core.specs.KnownRule.{no_rows}
+use Rattle.board_core.specs.OldRows.{IsOldRow}
 use Rattle.board_core.proofs.RowFrame.{rows_note, placed_begun}
 use Rattle.board_core.proofs.TreeFrame.{tree_note}
 use Rattle.board_core.proofs.PoolSeats.{sheet_note}
 use Rattle.board_core.specs.Sheets.{Sheet, sheet_of}
 use Rattle.board_core.specs.ChainRule.{IsTrueChain, ChainRule}
 use Rattle.std.proofs.Common.{sym, subst}
+use Rattle.board_core.proofs.PublishedFrame.{published_note}
+use Rattle.board_core.proofs.OldMoved.{no_old}
 
 note_seats : (k : Shape) (vs : List View) (n : View) (front : ℕ) → SeatRule k vs → n.me ≡ account Note front → n.kept ≡ [] → n.shape ≡ k → SeatRule k (vs ++ n ∷ [])
 note_seats k vs n front r is none_kept shape =
@@ -99,7 +101,9 @@ note k p h vs id v r at here =
       own = own_note p.pages vs v.shape front r.own;
       pool = pool_note k p.pool vs v.shape front r.pool;
       rows = rows_note k vs v.shape front r.rows;
-      tree = tree_note k p.pool.states p.pages (codes_in k p.regions) no_rows vs v.shape front (λ _ o. o) (λ n. placed_begun k vs n r.rows) (sheet_note p.pool.states vs v.shape front) r.tree;
+      pins = each_more (λ x. x.tree.front ≤ p.log.front) vs (account Note front) n refl refl (omega arith) r.pins;
+      published = published_note k vs v.shape front r.published;
+      tree = tree_note k p.pool.states p.pages (codes_in k p.regions) (IsOldRow k p.regions p.log.slots) vs v.shape front (no_old k p.regions p.log.slots) (λ n. placed_begun k vs n r.rows) (sheet_note p.pool.states vs v.shape front) r.tree;
       chains = subst (λ (x : Sheet). ChainRule k p.pages x (vs ++ n ∷ [])) (sym (sheet_note p.pool.states vs v.shape front)) (each_more (λ x. Each (λ e. IsTrueChain k p.pages (sheet_of p.pool.states vs) e.entry) x.entries) vs (account Note front) n refl refl (each_none (λ e. IsTrueChain k p.pages (sheet_of p.pool.states vs) e.entry)) r.chains);
       empty = each_more (λ x. Each (λ e. IsTruePool k p.pool.states e.entry) x.entries) vs (account Note front) n refl refl (each_none (λ e. IsTruePool k p.pool.states e.entry)) r.empty;
     }

@@ -19,7 +19,7 @@ use Rattle.board_core.specs.EmptyRule.{EmptyRule}
 use Rattle.board_core.specs.RoomRule.{SameSealed}
 use Rattle.board_core.specs.Sheets.{sheet_of, owns}
 use Rattle.board_core.specs.Rows.{codes_in, RowRule}
-use Rattle.board_core.specs.KnownRule.{no_rows}
+use Rattle.board_core.specs.OldRows.{IsOldRow}
 use Rattle.board_core.specs.TreeRule.{TreeRule}
 use Rattle.board_core.proofs.PoolFrame.{sheet_same}
 use Rattle.board_core.proofs.RowFrame.{rows_same, codes_stay, placed_begun}
@@ -50,6 +50,11 @@ use Rattle.board_core.specs.KnownRule.{Knows}
 use Rattle.board_core.specs.ChainRule.{ChainRule, IsTrueChain, IsToldChain}
 use Rattle.board_core.proofs.Everyone.{mine}
 use Rattle.board_core.proofs.ChainFrame.{chains_true}
+use Rattle.board_core.specs.PublishedRule.{PublishedRule}
+use Rattle.board_core.proofs.PublishedFrame.{published_same}
+use Rattle.std.proofs.Common.{◌≤◌}
+use Rattle.board_core.proofs.LoadFrame.{IsLater}
+use Rattle.board_core.proofs.OldMoved.{old_before, no_old, pins_same, pin_here}
 
 abbrev pub St : Type 0
 St = State (Unit {0}) View
@@ -76,8 +81,8 @@ pub record LeavesRegions (p q : Parts) (a b : Account) : Type 0 where
 -- a step of the log that changes the regions or what is known of them. Parts of the pool, the tree and the counts are framed here
 pub by_region : (k : Shape) (p q : Parts) (h g : List Event) (vs : List View) (id : ℕ) (v : View) (a : Account) → Rule k p h vs → get_elem? vs id ≡ some v → LeavesRest p q v.me a
     → LogRule k q.log g (set vs id (with_me v a)) → StoryRule k g (set vs id (with_me v a)) → FullRule k (set vs id (with_me v a)) → EmptyRule k q.pool.states (set vs id (with_me v a)) → ChainRule k q.pages (sheet_of q.pool.states (set vs id (with_me v a))) (set vs id (with_me v a)) → LoadRule k q.log (set vs id (with_me v a)) → RoomRule k q.regions q.log.front q.log.slots (set vs id (with_me v a))
-    → MarkRule k q.regions q.log.front q.log.slots (set vs id (with_me v a)) → RecordRule k (set vs id (with_me v a)) → FactRule k q.regions q.log.front (set vs id (with_me v a)) → RowRule k (set vs id (with_me v a)) → SameSealed k p.regions q.regions vs → Rule k q g (set vs id (with_me v a))
-by_region k p q h g vs id v a r at rest log stories full empty chains loads rooms marks records facts rows same = record {
+    → MarkRule k q.regions q.log.front q.log.slots (set vs id (with_me v a)) → RecordRule k (set vs id (with_me v a)) → FactRule k q.regions q.log.front (set vs id (with_me v a)) → RowRule k (set vs id (with_me v a)) → PublishedRule k (set vs id (with_me v a)) → SameSealed k p.regions q.regions vs → IsLater p.log q.log → Rule k q g (set vs id (with_me v a))
+by_region k p q h g vs id v a r at rest log stories full empty chains loads rooms marks records facts rows published same later = record {
   seats = seats_same k vs id v a r.seats at rest.who;
   log = log;
   stories = stories;
@@ -92,18 +97,21 @@ by_region k p q h g vs id v a r at rest log stories full empty chains loads room
   own = subst (λ (w : ℕ → ℕ → ℕ). OwnRule w (set vs id (with_me v a))) (sym rest.page_words) (own_same p.pages vs id v a r.own at (ap (λ (x : PoolAccount). x.own) rest.pool));
   empty = empty;
   rows = rows;
+  published = published;
+  pins = pins_same p.log.front q.log.front vs id v a r.pins at later.front (subst (λ (t : TreeAccount). t.front ≤ p.log.front) (sym rest.tree) (pin_here p.log.front vs id v r.pins at));
   chains = chains;
-  tree = subst (λ (x : (ℕ → ℕ) × (ℕ → ℕ → ℕ)). TreeRule k x.0 x.1 (codes_in k q.regions) no_rows (set vs id (with_me v a))) (λ i. ((sym rest.pool_words i).states, sym rest.page_words i))
+  tree = subst (λ (x : (ℕ → ℕ) × (ℕ → ℕ → ℕ)). TreeRule k x.0 x.1 (codes_in k q.regions) (IsOldRow k q.regions q.log.slots) (set vs id (with_me v a))) (λ i. ((sym rest.pool_words i).states, sym rest.page_words i))
       (let sheet : sheet_of p.pool.states (set vs id (with_me v a)) ≡ sheet_of p.pool.states vs = sheet_same p.pool.states vs id v a at (λ n. ap (λ (x : PoolAccount). owns n x.own) rest.pool) (ap (λ (x : PoolAccount). x.parted) rest.pool) in
-      tree_lifted k p.pool.states p.pool.states p.pages (codes_in k p.regions) (codes_in k q.regions) no_rows no_rows vs (set vs id (with_me v a)) (λ j u spot i x there r o. o) (λ _ o. o)
+      tree_lifted k p.pool.states p.pool.states p.pages (codes_in k p.regions) (codes_in k q.regions) (IsOldRow k p.regions p.log.slots) (IsOldRow k q.regions q.log.slots) vs (set vs id (with_me v a))
+      (λ j u spot i x there n o. old_before k p.regions q.regions p.log q.log vs x.tree.front n r.rooms same later (r.pins j u spot i x there) o) (no_old k q.regions q.log.slots)
       (linked_same (sheet_of p.pool.states vs) (sheet_of p.pool.states (set vs id (with_me v a))) sheet) (linked_same (sheet_of p.pool.states (set vs id (with_me v a))) (sheet_of p.pool.states vs) (sym sheet))
       (codes_stay k p.regions q.regions vs r.rooms.rooms r.rows same) (λ n. placed_begun k vs n r.rows) (lift_same vs id v a at rest.tree) (keeps_same vs id v a at rest.tree) r.tree);
 }
 
 -- what is answered of a full chain, by what the caller has read
 pub chains_here : (k : Shape) (p : Parts) (h : List Event) (vs : List View) (id : ℕ) (v : View) (es : List Entry) → Rule k p h vs → get_elem? vs id ≡ some v → Each (IsToldChain k v.me) es → Each (IsTrueChain k p.pages (sheet_of p.pool.states vs)) es
-chains_here k p h vs id v es r at told = chains_true p.pages (sheet_of p.pool.states vs) r.tree.place (codes_in k p.regions) (IsPlaced vs) r.tree.tree k v.me (no_rows v.me.tree.front) es
-    (mine (λ x. Knows p.pages (sheet_of p.pool.states vs) r.tree.place (codes_in k p.regions) (IsPlaced vs) no_rows x.tree) vs id v at r.tree.known).known told
+chains_here k p h vs id v es r at told = chains_true p.pages (sheet_of p.pool.states vs) r.tree.place (codes_in k p.regions) (IsPlaced vs) r.tree.tree k v.me ((IsOldRow k p.regions p.log.slots) v.me.tree.front) es
+    (mine (λ x. Knows p.pages (sheet_of p.pool.states vs) r.tree.place (codes_in k p.regions) (IsPlaced vs) (IsOldRow k p.regions p.log.slots) x.tree) vs id v at r.tree.known).known told
 
 -- a step of the log alone. Parts of the regions are framed here, but what was loaded of blocks
 pub by_load : (k : Shape) (p q : Parts) (h g : List Event) (vs : List View) (id : ℕ) (v : View) (a : Account) → Rule k p h vs → get_elem? vs id ≡ some v → LeavesRest p q v.me a → LeavesRegions p q v.me a
@@ -116,7 +124,9 @@ by_load k p q h g vs id v a r at rest regions log stories full empty chains load
     (records_same k vs id v a r.records at rest.who (ap (λ (x : Store). x.room.used) regions.store) (ap (λ (x : Store). x.room.sealed) regions.store))
     facts
     (rows_same k vs id v a r.rows at rest.who (ap (λ (x : Store). x.room.used) regions.store) (ap (λ (x : Store). x.room.sealed) regions.store) (ap (λ (x : TreeAccount). x.begun) rest.tree) (ap (λ (x : TreeAccount). x.placed) rest.tree))
+    (published_same k vs id v a r.published at rest.who (ap (λ (x : Store). x.room.used) regions.store) (ap (λ (x : Store). x.room.published) regions.store) (ap (λ (x : Store). x.pending.shows) regions.store) (ap (λ (x : TreeAccount). x.placed) rest.tree))
     (λ j u there i x here b s in_list t _ _ _. ap (λ (f : ℕ → ℕ). f (s.place + t - regions_at k)) regions.words)
+    record { front = (let e = regions.front in omega arith); slots = λ i _. ap (λ (f : ℕ → ℕ). f i) regions.slots }
 
 -- a step of the log that loads nothing of blocks
 pub by_log : (k : Shape) (p q : Parts) (h g : List Event) (vs : List View) (id : ℕ) (v : View) (a : Account) → Rule k p h vs → get_elem? vs id ≡ some v → LeavesRest p q v.me a → LeavesRegions p q v.me a → SameLoads a.loads v.me.loads

@@ -36,6 +36,7 @@ use Rattle.board_core.proofs.Fields.{target_back, loader_back, kind_back}
 use Rattle.board_core.proofs.Shown.{history_same}
 use Rattle.board_core.proofs.RowFrame.{rows_same}
 use Rattle.board_core.proofs.ChainFrame.{chains_same}
+use Rattle.board_core.proofs.PublishedFrame.{published_same}
 
 not_two : {n : ℕ} → n ≡ 1 → n ≡ 2 → ⊥
 not_two a b = omega arith
@@ -136,7 +137,9 @@ store_event k p h vs id loader word v r at may =
     (records_same k vs id v (after_logged v.me word) r.records at refl refl refl)
     (facts_same k p.regions p.log.front p.log.front vs id v (after_logged v.me word) r.facts at refl record { heads = refl; facts = refl; codes = refl; marks = refl } (omega arith))
     (rows_same k vs id v (after_logged v.me word) r.rows at refl refl refl refl refl)
+    (published_same k vs id v (after_logged v.me word) r.published at refl refl refl refl refl)
     (λ j u there i x here b s in_list t _ _ _. refl)
+    record { front = omega arith; slots = λ i behind. stored_else p.log.slots p.log.front word i (λ e. omega arith) }
 
 pub event_allowed : (k : Shape) (slots id place loader word : ℕ) (m : Mine) → place ≡ log_at k + m.0.me.log.seen → MayLog k m.0.me loader word → Allows (Holds k) slots id m place (λ _. word) (λ _. Logs (step slots place word 0 none) m word)
 event_allowed k slots id place loader word m is may s h _ at _ =

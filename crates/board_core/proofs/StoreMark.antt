@@ -41,6 +41,7 @@ use Rattle.board_core.proofs.Changed.{set_region}
 use Rattle.board_core.specs.RoomRule.{SameSealed}
 use Rattle.board_core.proofs.RowFrame.{rows_same}
 use Rattle.board_core.proofs.ChainFrame.{chains_same}
+use Rattle.board_core.proofs.PublishedFrame.{published_same, published_shows}
 
 marked_holds : (w : LogWords) (a b : Account) → a.log.holding ≡ Fronted → b.who ≡ a.who → b.log.seen ≡ a.log.seen → HoldsLock w (hand_of a) a.log.holding → HoldsLock w (hand_of b) a.log.holding
 marked_holds w a b e who seen holds = let own = owner w (hand_of a) a.log.holding e holds in subst (HoldsLock w (hand_of b)) (sym e) (who ∙ own.0, seen ∙ own.1)
@@ -152,7 +153,9 @@ shows k p vs id block i n v r at may place number =
     (records_same k vs id v a r.records at refl refl refl)
     (facts_same k q.regions p.log.front p.log.front vs id v a new.facts at refl record { heads = refl; facts = refl; codes = refl; marks = refl } (omega arith))
     (rows_same k vs id v a r.rows at refl refl refl refl refl)
-    new.stay)
+    (published_shows k vs id block v r.published at may.placed)
+    new.stay
+    (not_later p.log p.log refl refl))
 
 pub ends : (k : Shape) (p : Parts) (vs : List View) (id i n : ℕ) (v : View) (e : Ending) → Rule k p (history_of k p) vs → get_elem? vs id ≡ some v → MayEnd k v.me e → regions_at k + i ≡ e.block + 2 → n ≡ v.me.log.seen + 1
     → Rule k (with_region p i n) (history_of k (with_region p i n)) (set vs id (with_me v (after_ends v.me e)))
@@ -180,7 +183,9 @@ ends k p vs id i n v e r at may place number =
     (records_same k vs id v a r.records at refl refl refl)
     (facts_same k q.regions p.log.front p.log.front vs id v a new.facts at refl record { heads = refl; facts = refl; codes = refl; marks = refl } (omega arith))
     (rows_same k vs id v a r.rows at refl refl refl refl refl)
-    new.stay)
+    (published_same k vs id v a r.published at refl refl refl refl refl)
+    new.stay
+    (not_later p.log p.log refl refl))
 
 pub shows_allowed : (k : Shape) (slots id place i n block : ℕ) (m : Mine) → place ≡ regions_at k + i → i < regions_size k → place ≡ block + 1 → n ≡ m.0.me.log.seen + 1 → MayPublish k m.0.me block
     → Allows (Holds k) slots id m place (λ _. n) (λ _. Shows block (step slots place n 0 none) m n)

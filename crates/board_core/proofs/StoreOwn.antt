@@ -24,7 +24,8 @@ use Rattle.board_core.specs.Rows.{codes_in, IsBegun, IsPlaced}
 use Rattle.board_core.specs.Turns.{IsPut}
 use Rattle.board_core.specs.ClassTree.{Place}
 use Rattle.board_core.specs.KnownPages.{AreKept}
-use Rattle.board_core.specs.KnownRule.{Knows, no_rows}
+use Rattle.board_core.specs.KnownRule.{Knows}
+use Rattle.board_core.specs.OldRows.{IsOldRow}
 use Rattle.board_core.specs.TreeRule.{TreeRule}
 use Rattle.board_core.specs.Loaded.{page_word}
 use Rattle.board_core.specs.Holds.{Rule, Holds}
@@ -141,7 +142,7 @@ store_own k p h vs id q i n v r at may =
     let a : Account = after_own v.me q i n in
     let same : (x : ℕ) → owns x a.pool.own ≡ owns x v.me.pool.own = λ x. owns_put q i n x v.me.pool.own in
     by_tree k p (stored_page p.pages q i n) h vs id v a r at
-    record { who = refl; log = refl; room = refl; entries = refl; shown = refl; heads = refl; facts = refl; codes = refl; marks = refl }
+    record { who = refl; log = refl; room = refl; entries = refl; shown = refl; heads = refl; facts = refl; codes = refl; marks = refl } (λ q h. h) refl
     (pool_stored k p.pool vs id v a.pool.own r.pool at same)
     (own_stored k p.pool p.pages vs id q i n v r.own r.pool at may)
     (rows_same k vs id v a r.rows at refl refl refl refl refl)
@@ -149,7 +150,7 @@ store_own k p h vs id q i n v r at may =
       linked = linked_kept p.pool.states vs id v a at same (λ _. refl);
       words = λ y t l _. (put_is p.pages q i n).others y t (inl (λ e. let own = may.own in let part = at_most (λ x. owns q x.pool.own) vs id v at in let none_here : total (λ x. owns q x.pool.own) vs ≡ 0 = ap (λ (x : ℕ). total (λ b. owns x b.pool.own) vs) (sym e) ∙ l.owned in omega arith));
     }
-    (stored_tree k p.pool p.pages (stored_page p.pages q i n) (codes_in k p.regions) no_rows vs id q i n v a r.tree r.pool at same refl refl may.own (put_is p.pages q i n))
+    (stored_tree k p.pool p.pages (stored_page p.pages q i n) (codes_in k p.regions) (IsOldRow k p.regions p.log.slots) vs id q i n v a r.tree r.pool at same refl refl may.own (put_is p.pages q i n))
 
 pub own_allowed : (k : Shape) (slots id q i n at_word : ℕ) (m : Mine) → at_word ≡ page_word k q i → MayStoreOwn k m.0.me q i → Allows (Holds k) slots id m at_word (λ _. n) (λ _. StoresOwn q i (step slots at_word n 0 none) m 0)
 own_allowed k slots id q i n at_word m is may s h _ at _ = let p : Parts = parts_of k s.words in (

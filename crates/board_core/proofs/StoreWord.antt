@@ -27,6 +27,7 @@ use Rattle.std.proofs.lemmas.List.{length_push}
 use Rattle.board_core.specs.declared.room.Sealed.{Sealed}
 use Rattle.board_core.specs.Words.{regions_size}
 use Rattle.board_core.specs.After.{after_word}
+use Rattle.board_core.specs.Rows.{RowsFit}
 use Rattle.board_core.specs.Steps.{MayStore, MaySeal, IsKnownRoom, Stores}
 use Rattle.board_core.specs.RoomRule.{store_of, region_of, SealedFits, RoomFits}
 use Rattle.board_core.proofs.RoomFrame.{history_kept, size_least}
@@ -40,6 +41,7 @@ use Rattle.board_core.proofs.RecordFrame.{records_word}
 use Rattle.board_core.proofs.FactFrame.{facts_word}
 use Rattle.board_core.proofs.RowFrame.{rows_word}
 use Rattle.board_core.proofs.ChainFrame.{chains_same}
+use Rattle.board_core.proofs.PublishedFrame.{published_word}
 
 pub store_word : (k : Shape) (p : Parts) (vs : List View) (id loader word : ℕ) (v : View) (more : List Sealed) → Rule k p (history_of k p) vs → get_elem? vs id ≡ some v → MayStore k v.me loader → Adds k v.me word more → Each (MaySeal k v.me word) more
     → Rule k (record p { regions = stored p.regions (next_at k v.me) word }) (history_of k (record p { regions = stored p.regions (next_at k v.me) word })) (set vs id (with_me v (after_word v.me word more)))
@@ -61,7 +63,9 @@ store_word k p vs id loader word v more r at may adds seals =
     (records_word k p.regions vs id word v more r.records r.rooms.rooms at seals)
     (facts_word k p.regions p.log.front p.log.slots vs id loader word v more r.facts r.seats r.rooms at may)
     (rows_word k p.regions vs id word v more r.rows r.rooms.rooms at)
-    (word_same k p.regions vs id loader word v r.seats r.rooms.rooms at may))
+    (published_word k p.regions vs id word v more r.published r.rooms.rooms r.marks.listed at)
+    (word_same k p.regions vs id loader word v r.seats r.rooms.rooms at may)
+    (not_later p.log p.log refl refl))
 
 -- the place is in the table's regions
 next_inside : (k : Shape) (a : Account) (loader : ℕ) → MayStore k a loader → WhoFits k a.who → (region_of k a.who + length a.room.used ≡ regions_at k + next_at k a) × (next_at k a < regions_size k)
@@ -81,11 +85,12 @@ next_inside k a loader may fits =
     inside_it from base low used room high e u g = omega arith
 
 -- what the rule says of the room
-known_room : (k : Shape) (regions : ℕ → ℕ) (a : Account) → RoomFits k regions (store_of a) → AreListed a.room → IsKnownRoom k a
-known_room k regions a f listed = record {
+known_room : (k : Shape) (regions : ℕ → ℕ) (a : Account) → RoomFits k regions (store_of a) → AreListed a.room → RowsFit k a.who a.room.used a.room.sealed a.tree → IsKnownRoom k a
+known_room k regions a f listed rows = record {
   before = λ j s there. let t = f.sealed j s there in let until = t.until in let least = size_least (region_of k a.who) a.room.used s t in omega arith;
   within = λ j s there. (f.sealed j s there).until;
   listed = listed;
+  placed = λ j r there. let begun = rows.placed j r there in (rows.begun begun.0 r begun.1).sealed;
 }
 
 -- a loader is not gone
@@ -107,7 +112,8 @@ stored_allowed k slots id place loader word m more is may adds seals s h _ at _ 
       record {
         after = refl;
         room = subst (λ (z : Shape). IsKnownRoom z m.0.me) (sym (h.rule.seats.shapes id m.0 at (loader_stays m.0.me.who loader may.who)))
-            (known_room k p.regions m.0.me (mine (λ x. RoomFits k p.regions (store_of x)) s.views id m.0 at h.rule.rooms.rooms) (mine (λ x. AreListed x.room) s.views id m.0 at h.rule.marks.listed));
+            (known_room k p.regions m.0.me (mine (λ x. RoomFits k p.regions (store_of x)) s.views id m.0 at h.rule.rooms.rooms) (mine (λ x. AreListed x.room) s.views id m.0 at h.rule.marks.listed)
+            (mine (λ x. RowsFit k x.who x.room.used x.room.sealed x.tree) s.views id m.0 at h.rule.rows));
       },
     )
 

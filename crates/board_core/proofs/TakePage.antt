@@ -35,9 +35,10 @@ use Rattle.board_core.proofs.OwnFrame.{own_taken}
 use Rattle.board_core.proofs.Pooled.{by_pool, tree_stays, seat_within, state_at, put_state}
 use Rattle.board_core.proofs.LoadState.{lose_state}
 use Rattle.board_core.specs.Rows.{codes_in}
-use Rattle.board_core.specs.KnownRule.{no_rows}
+use Rattle.board_core.specs.OldRows.{IsOldRow}
 use Rattle.board_core.specs.TreeRule.{TreeRule}
 use Rattle.board_core.specs.Sheets.{IsLinked}
+use Rattle.board_core.proofs.OldMoved.{pin_here}
 
 -- ---- pages of which no number changed
 
@@ -134,7 +135,7 @@ take_linked k w vs id loader q v at may x l =
 
 -- the same pages are linked: the page was free or retired, and is one's own now
 take_tree : (k : Shape) (p : Parts) (h : List Event) (vs : List View) (id loader q : ℕ) (v : View) → Rule k p h vs → get_elem? vs id ≡ some v → MayTakePage k v.me loader q (p.pool.states q)
-    → TreeRule k (stored p.pool.states q 1) p.pages (codes_in k p.regions) no_rows (set vs id (with_me v (after_page v.me q)))
+    → TreeRule k (stored p.pool.states q 1) p.pages (codes_in k p.regions) (IsOldRow k p.regions p.log.slots) (set vs id (with_me v (after_page v.me q)))
 take_tree k p h vs id loader q v r at may =
     let b : Account = after_page v.me q in
     let g : ℕ → ℕ = stored p.pool.states q 1 in
@@ -157,6 +158,7 @@ take_page k p h vs id loader q v r at may = by_pool k p (record p.pool { states 
     (take_pool k p.pool vs id loader q v r.seats r.pool at may)
     (own_taken p.pages vs id q v r.own at)
     record { begun = refl; placed = refl }
+    (pin_here p.log.front vs id v r.pins at)
     (take_linked k p.pool vs id loader q v at may)
     (take_tree k p h vs id loader q v r at may)
 

@@ -17,7 +17,7 @@ use Rattle.board_core.specs.Accounts.{with_me}
 use Rattle.board_core.specs.PoolRule.{PoolRule}
 use Rattle.board_core.specs.OwnRule.{OwnRule}
 use Rattle.board_core.specs.Rows.{codes_in, RowRule}
-use Rattle.board_core.specs.KnownRule.{no_rows}
+use Rattle.board_core.specs.OldRows.{IsOldRow}
 use Rattle.board_core.specs.TreeRule.{TreeRule}
 use Rattle.board_core.specs.Loaded.{IsPage, page_word}
 use Rattle.board_core.specs.Holds.{Rule, Holds}
@@ -39,12 +39,17 @@ use Rattle.board_core.proofs.Pooled.{LeavesLog}
 use Rattle.board_core.specs.declared.room.RoomAccount.{RoomAccount}
 use Rattle.board_core.specs.Sheets.{sheet_of}
 use Rattle.board_core.proofs.ChainFrame.{KeepsPages, chains_later}
+use Rattle.board_core.specs.declared.room.Row.{Row}
+use Rattle.board_core.specs.Each.{In}
+use Rattle.board_core.specs.declared.log.LogAccount.{LogAccount}
+use Rattle.board_core.proofs.PublishedFrame.{published_grown}
+use Rattle.board_core.proofs.OldMoved.{pins_same, pin_here}
 
 -- a step of the tree. All parts of the log, of the regions and of the states of pages are framed here
-pub by_tree : (k : Shape) (p : Parts) (w : ℕ → ℕ → ℕ) (h : List Event) (vs : List View) (id : ℕ) (v : View) (a : Account) → Rule k p h vs → get_elem? vs id ≡ some v → LeavesLog v.me a
-    → PoolRule k p.pool (set vs id (with_me v a)) → OwnRule w (set vs id (with_me v a)) → RowRule k (set vs id (with_me v a)) → KeepsPages p.pages w (sheet_of p.pool.states vs) (sheet_of p.pool.states (set vs id (with_me v a))) → TreeRule k p.pool.states w (codes_in k p.regions) no_rows (set vs id (with_me v a))
+pub by_tree : (k : Shape) (p : Parts) (w : ℕ → ℕ → ℕ) (h : List Event) (vs : List View) (id : ℕ) (v : View) (a : Account) → Rule k p h vs → get_elem? vs id ≡ some v → LeavesLog v.me a → ((q : Row) → In q v.me.tree.placed → In q a.tree.placed) → a.tree.front ≡ v.me.tree.front
+    → PoolRule k p.pool (set vs id (with_me v a)) → OwnRule w (set vs id (with_me v a)) → RowRule k (set vs id (with_me v a)) → KeepsPages p.pages w (sheet_of p.pool.states vs) (sheet_of p.pool.states (set vs id (with_me v a))) → TreeRule k p.pool.states w (codes_in k p.regions) (IsOldRow k p.regions p.log.slots) (set vs id (with_me v a))
     → Rule k (record p { pages = w }) h (set vs id (with_me v a))
-by_tree k p w h vs id v a r at rest pool own rows stay tree = record {
+by_tree k p w h vs id v a r at rest more pinned pool own rows stay tree = record {
   chains = chains_later k p.pages w (sheet_of p.pool.states vs) (sheet_of p.pool.states (set vs id (with_me v a))) vs id v a r.chains at stay rest.entries;
   seats = seats_same k vs id v a r.seats at rest.who;
   log = log_same k p.log h vs id v a r.log at (λ i. record { who = rest.who i; log = rest.log i });
@@ -59,6 +64,8 @@ by_tree k p w h vs id v a r at rest pool own rows stay tree = record {
   own = own;
   empty = empty_same k p.pool.states vs id v a r.empty at rest.entries;
   rows = rows;
+  pins = pins_same p.log.front p.log.front vs id v a r.pins at (omega arith) (let e = pinned in let most = pin_here p.log.front vs id v r.pins at in omega arith);
+  published = published_grown k vs id v a r.published at rest.who (ap (λ (x : RoomAccount). x.used) rest.room) (ap (λ (x : RoomAccount). x.published) rest.room) (ap (λ (x : LogAccount). x.pending.shows) rest.log) more;
   tree = tree;
 }
 

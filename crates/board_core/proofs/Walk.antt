@@ -29,7 +29,7 @@ pub record IsBranch (page : ℕ → ℕ) (P : Place) (by : Way) (R : Place) (k :
   pub some_code : page (2 + 2 * k) ≢ 0
   pub path : R.path ≡ P.path ++ page (2 + 2 * k) ∷ []
 
-up_branch : (page : ℕ → ℕ) (P : Place) (way : Way) (R : Place) → R.rank ≡ 0 → Follows page P way R → (k : ℕ) × IsBranch page P way R k
+pub up_branch : (page : ℕ → ℕ) (P : Place) (way : Way) (R : Place) → R.rank ≡ 0 → Follows page P way R → (k : ℕ) × IsBranch page P way R k
 up_branch page P More R e f = let rank : R.rank ≡ P.rank + 1 = f.1 in absurd (omega arith)
 up_branch page P (Branch k) R e f = (k, record { way = refl; kind = f.0; room = f.1; some_code = f.2; path = f.3 })
 

@@ -1,5 +1,5 @@
 -- What was answered of a full chain is true: there are so many full pages of one chain.
-use Rattle.std.specs.Prelude.{◌≡◌, ◌≢◌, ℕ, ◌+◌, ◌<◌, ◌≤◌, Bool, List, length}
+use Rattle.std.specs.Prelude.{◌≡◌, ◌≢◌, ℕ, ◌+◌, ◌*◌, ◌<◌, ◌≤◌, Bool, List, length}
 use Rattle.htss_defs.specs.declared.shape.Shape.{Shape}
 use Rattle.board_core.specs.declared.account.Account.{Account}
 use Rattle.board_core.specs.declared.account.View.{View}
@@ -9,16 +9,22 @@ use Rattle.board_core.specs.declared.entry.Entry.TheVariants.{Published, Withdra
 use Rattle.board_core.specs.Each.{Each, In}
 use Rattle.board_core.specs.Accounts.{EachAccount}
 use Rattle.board_core.specs.Sheets.{Sheet, IsLinked}
-use Rattle.board_core.specs.ClassTree.{slot_at, page_room}
+use Rattle.board_core.specs.ClassTree.{kind_of, slot_at, page_room}
 
--- the page of each rank is one of the tree, full, and names the next
-pub record IsFullChain (w : ℕ → ℕ → ℕ) (s : Sheet) (count : ℕ) : Type 0 where
+-- pages of one kind and depth, of ranks from 0 on: each is full and names the next
+pub record IsFullChain (w : ℕ → ℕ → ℕ) (count : ℕ) : Type 0 where
   pub leaf : Bool
+  pub depth : ℕ
   pub page : (i : ℕ) → i < count → ℕ
-  pub linked : (i : ℕ) (h : i < count) → IsLinked s (page i h)
+  pub header : (i : ℕ) (h : i < count) → w (page i h) 0 ≡ kind_of leaf + 4 * depth + 32 * i
   pub full : (i j : ℕ) (h : i < count) → j < page_room leaf → w (page i h) (slot_at leaf j) ≢ 0
   pub next : (i : ℕ) (h : i < count) (g : i + 1 < count) → w (page i h) 1 ≡ page (i + 1) g
   pub more : (i : ℕ) (h : i < count) → i + 1 < count → w (page i h) 1 ≢ 0
+
+-- and they are pages of the tree
+pub record HasFullChain (w : ℕ → ℕ → ℕ) (s : Sheet) (count : ℕ) : Type 0 where
+  pub chain : IsFullChain w count
+  pub linked : (i : ℕ) (h : i < count) → IsLinked s (chain.page i h)
 
 abbrev pub IsTrueChain : Shape → (ℕ → ℕ → ℕ) → Sheet → Entry → Type 0
 IsTrueChain k w s (Published number event) = Unit {0}
@@ -29,8 +35,21 @@ IsTrueChain k w s (Ended number at) = Unit {0}
 IsTrueChain k w s (LogFull front) = Unit {0}
 IsTrueChain k w s (DataFull left need) = Unit {0}
 IsTrueChain k w s NoPage = Unit {0}
-IsTrueChain k w s (ChainFull pages) = (pages ≡ k.chain) × IsFullChain w s pages
+IsTrueChain k w s (ChainFull pages) = (pages ≡ k.chain) × HasFullChain w s pages
 IsTrueChain k w s (Swept need front rows) = Unit {0}
+
+-- the part that reads the words of pages
+abbrev pub IsTrueTree : Shape → (ℕ → ℕ → ℕ) → Entry → Type 0
+IsTrueTree k w (Published number event) = Unit {0}
+IsTrueTree k w (Withdrawn number event) = Unit {0}
+IsTrueTree k w (Answered query budget front reply) = Unit {0}
+IsTrueTree k w (Unknown number front) = Unit {0}
+IsTrueTree k w (Ended number at) = Unit {0}
+IsTrueTree k w (LogFull front) = Unit {0}
+IsTrueTree k w (DataFull left need) = Unit {0}
+IsTrueTree k w NoPage = Unit {0}
+IsTrueTree k w (ChainFull pages) = (pages ≡ k.chain) × IsFullChain w pages
+IsTrueTree k w (Swept need front rows) = Unit {0}
 
 abbrev pub ChainRule : Shape → (ℕ → ℕ → ℕ) → Sheet → List View → Type 0
 ChainRule k w s vs = EachAccount (λ a. Each (λ n. IsTrueChain k w s n.entry) a.entries) vs

@@ -19,10 +19,12 @@ use Rattle.board_core.specs.PoolRule.{PoolRule}
 use Rattle.board_core.specs.OwnRule.{OwnRule}
 use Rattle.board_core.specs.EmptyRule.{EmptyRule}
 use Rattle.board_core.specs.Rows.{codes_in, RowRule}
-use Rattle.board_core.specs.KnownRule.{no_rows}
+use Rattle.board_core.specs.OldRows.{IsOldRow}
+use Rattle.board_core.specs.PinRule.{PinRule}
 use Rattle.board_core.specs.TreeRule.{TreeRule}
 use Rattle.board_core.specs.ChainRule.{ChainRule}
 use Rattle.board_core.specs.Sheets.{sheet_of}
+use Rattle.board_core.specs.PublishedRule.{PublishedRule}
 
 -- the parts, over the words by group, the history that they show, and all views
 pub record Rule (k : Shape) (p : Parts) (history : List Event) (vs : List View) : Type 0 where
@@ -39,8 +41,10 @@ pub record Rule (k : Shape) (p : Parts) (history : List Event) (vs : List View) 
   pub own : OwnRule p.pages vs
   pub empty : EmptyRule k p.pool.states vs
   pub rows : RowRule k vs
+  pub published : PublishedRule k vs
+  pub pins : PinRule p.log.front vs
   pub chains : ChainRule k p.pages (sheet_of p.pool.states vs) vs
-  pub tree : TreeRule k p.pool.states p.pages (codes_in k p.regions) no_rows vs
+  pub tree : TreeRule k p.pool.states p.pages (codes_in k p.regions) (IsOldRow k p.regions p.log.slots) vs
 
 pub record Holds (k : Shape) (s : State (Unit {0}) View) : Type 0 where
   pub wide : length s.words ≡ total_of k

@@ -18,7 +18,3 @@ pub record Knows (w : ℕ → ℕ → ℕ) (s : Sheet) (m : ℕ → Place) (code
 
 abbrev pub KnownRule : (ℕ → ℕ → ℕ) → Sheet → (ℕ → Place) → (ℕ → List ℕ) → (ℕ → Type 0) → (ℕ → ℕ → Type 0) → List View → Type 0
 KnownRule w s m codes placed old vs = EachAccount (λ a. Knows w s m codes placed old a.tree) vs
-
--- no search descends the tree yet, so no row is an old one
-abbrev pub no_rows : ℕ → ℕ → Type 0
-no_rows f n = ⊥

@@ -33,8 +33,12 @@ pub mod Fill
 pub mod Hang
 pub mod NextPage
 pub mod Rows
+pub mod RowWalk
 pub mod KnownRule
 pub mod TreeRule
+pub mod PublishedRule
+pub mod OldRows
+pub mod PinRule
 pub mod ChainRule
 pub mod After
 pub mod Loaded

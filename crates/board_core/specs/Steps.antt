@@ -36,6 +36,7 @@ use Rattle.board_core.specs.ChainRule.{IsToldChain}
 use Rattle.board_core.specs.EpochRule.{IsPast, last_epoch}
 use Rattle.board_core.specs.LogWord.{kind_in, publication_word, target_in, withdrawal_word}
 use Rattle.board_core.specs.After.{visited, after_begun, after_linked, after_inner, after_entry, after_own, after_slot, after_link, after_more, after_epoch, after_advance, after_pin, after_unpin, after_pass, after_state, after_lost, after_page, after_retire, after_code, after_fact, after_head, after_mark, after_word, noted, after_take, after_free, after_answer, after_front, after_shows, after_ends, after_logged, after_event, after_shown}
+use Rattle.board_core.specs.PublishedRule.{AllPlaced}
 
 abbrev pub Mine : Type 0
 Mine = Me (Unit {0}) View
@@ -78,6 +79,7 @@ pub record MayPublish (k : Shape) (a : Account) (block : ℕ) : Type 0 where
   pub may : MayMark k a
   pub sealed : IsSealed a.room.sealed block
   pub fresh : ¬ (IsAmong a.room.published block)
+  pub placed : AllPlaced k a.who a.room.used a.tree.placed block
 
 -- the last mark of a block may be stored: the number's log word was loaded as its publication, and this mark, at the front that is
 -- seen, as no event's
@@ -307,11 +309,12 @@ pub record LoadsFront (s : Step (Unit {0})) (m : Mine) (found : ℕ) (n : Mine) 
   pub same : m.0.me.log.holding ≡ Fronted → found ≡ m.0.me.log.seen
 
 -- what the rule says of an own region: each sealed block begins before the next word and ends there or before, and what is published
--- is sealed
+-- is sealed, as is the block of each row that is placed
 pub record IsKnownRoom (k : Shape) (a : Account) : Type 0 where
   pub before : Each (λ t. t.place < region_of k a.who + length a.room.used) a.room.sealed
   pub within : Each (λ t. t.place + t.size ≤ region_of k a.who + length a.room.used) a.room.sealed
   pub listed : AreListed a.room
+  pub placed : Each (λ r. IsSealed a.room.sealed r.block) a.tree.placed
 
 -- a word of the region is stored, and completes these blocks; what was stored before is as the rule says
 pub record Stores (more : List Sealed) (s : Step (Unit {0})) (m : Mine) (found : ℕ) (n : Mine) : Type 0 where

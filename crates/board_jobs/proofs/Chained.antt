@@ -1,5 +1,5 @@
 -- Answers of one caller, one after the other.
-use Rattle.std.proofs.Common.{◌≡◌, Result, Ok, Err, OnErr, IfErr, Bool, true, cond, ℕ, ◌≤◌, List, [], ◌∷◌, ◌++◌, length, map, sym, ap, subst, ◌∙◌, refl, All}
+use Rattle.std.proofs.Common.{◌≡◌, Result, Ok, Err, OnErr, IfErr, Bool, true, cond, ℕ, ◌<◌, ◌≤◌, List, [], ◌∷◌, ◌++◌, length, map, sym, ap, subst, ◌∙◌, refl, arith, All}
 use Rattle.std.proofs.lemmas.List.{map-append}
 use Rattle.std.proofs.lemmas.List.Elements.{All-nil, All-cons, filter-append}
 use Rattle.htss_defs.specs.declared.shape.Shape.{Shape}
@@ -17,9 +17,13 @@ use Rattle.board_core.specs.After.{noted}
 use Rattle.board_core.specs.Answers.{is_answer, answers_in}
 use Rattle.board_core.specs.declared.loads.Loads.{Loads}
 use Rattle.board_core.proofs.Grown.{grows_same, grows_trans}
-use Rattle.board.specs.Seated.{Place, Seated, IsLoader, number_in, with_account}
+use Rattle.board.specs.Seated.{Place, Seated, IsNew, IsLoader, number_in, with_account}
 use Rattle.board_jobs.specs.Telling.{entries_in, tells}
 use Rattle.board_jobs.specs.Answering.{who_of, IsAnswered, AreAnswered}
+use Rattle.board_core.specs.declared.pool.PoolAccount.{PoolAccount}
+use Rattle.board_core.specs.MarkRule.{IsAmong}
+use Rattle.board_core.specs.Sheets.{owns}
+use Rattle.class_tree.specs.Inserting.{IsStocked}
 use Rattle.board_jobs.specs.Jobs.{IsReady}
 use Rattle.board_jobs.specs.Calls.{Answers, GoesOn, IsAtWork}
 
@@ -78,13 +82,33 @@ pub record IsFreed (b : Place) (a x : Account) : Type 0 where
   pub who : x.who ≡ a.who
   pub room : length x.room.used ≤ b.shape.room
 
-pub ready_after : (b : Place) (a x : Account) → IsReady a → IsFreed b a x → IsReady x
-ready_after b a x ready f = record { free = f.holding; unpinned = ap (λ p. p.announced) f.pool ∙ ready.unpinned }
+-- what it keeps stays in its stock
+pub stocked_after : (c d : Seated) → d.account.pool ≡ c.account.pool → d.stock ≡ c.stock → IsStocked c → IsStocked d
+stocked_after c d pool stock h = record {
+  own = λ q own. subst (λ (l : List ℕ). IsAmong l q) (sym stock) (h.own q (subst (λ (p : PoolAccount). 0 < owns q p.own) pool own));
+  size = subst (λ (l : List ℕ). length l ≤ 32) (sym stock) h.size;
+  clean = ap (λ (p : PoolAccount). p.parted) pool ∙ h.clean;
+}
+
+-- a caller of a board that was just opened is ready
+pub new_ready : (b : Place) (made : ℕ) (c : Seated) → IsNew b made c → IsReady c
+new_ready b made c new = record {
+  free = ap (λ (a : Account). a.log.holding) new.account;
+  unpinned = ap (λ (a : Account). a.pool.announced) new.account;
+  stocked = record {
+    own = λ q own. let none : 0 < 0 = subst (λ (a : Account). 0 < owns q a.pool.own) new.account own in absurd (omega arith);
+    size = subst (λ (l : List ℕ). length l ≤ 32) (sym new.stock) (omega arith);
+    clean = ap (λ (a : Account). a.pool.parted) new.account;
+  };
+}
+
+pub ready_after : (b : Place) (c d : Seated) → IsReady c → d.stock ≡ c.stock → IsFreed b c.account d.account → IsReady d
+ready_after b c d ready stock f = record { free = f.holding; unpinned = ap (λ p. p.announced) f.pool ∙ ready.unpinned; stocked = stocked_after c d f.pool stock ready.stocked }
 
 pub work_after : (b : Place) (old new : Seated) (x : Account) → new ≡ with_account old x → IsAtWork b old → IsFreed b old.account x → IsAtWork b new
 work_after b old new x is work f = subst (IsAtWork b) (sym is) record {
   of = record { table = work.of.table; shape = work.of.shape };
-  ready = ready_after b old.account x work.ready f;
+  ready = ready_after b old (with_account old x) work.ready refl f;
   room = f.room;
 }
 

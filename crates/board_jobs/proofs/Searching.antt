@@ -107,34 +107,34 @@ pub told-over : (b : Place) (c d : Seated) (asked : QueryGraph) (budget front : 
     → Searched c.account d.account front (Answered asked budget front reply.OverBudget ∷ []) → TellsReply b.shape c.account d.account asked budget (OverBudget front budget)
 told-over b c d asked budget front later s = (refl, over-answers b.shape c.account d.account asked budget front later s)
 
-pub on-searched : (b : Place) (c d : Seated) (front : ℕ) (es : List Entry) (answer : Answer) → IsAtWork b c → IsOf b d → Searched c.account d.account front es
+pub on-searched : (b : Place) (c d : Seated) (front : ℕ) (es : List Entry) (answer : Answer) → IsAtWork b c → IsOf b d → d.stock ≡ c.stock → Searched c.account d.account front es
     → Answers b.shape c.account d.account answer → GoesOn b c d
-on-searched b c d front es answer work of s answers =
+on-searched b c d front es answer work of stock s answers =
     let freed : IsFreed b c.account d.account = record {
       holding = ap (λ l. l.holding) s.log ∙ ap fronted work.ready.free;
       pool = s.pool;
       who = s.who;
       room = subst (λ r. length r.used ≤ b.shape.room) (sym s.room) work.room;
     } in
-    goes_on-one b c d answer (record { of = of; ready = ready_after b c.account d.account work.ready freed; room = freed.room }) s.who answers
+    goes_on-one b c d answer (record { of = of; ready = ready_after b c d work.ready stock freed; room = freed.room }) s.who answers
 
-pub on-hits : (b : Place) (c d : Seated) (asked : QueryGraph) (budget front : ℕ) (found : List Hit) (rows records : ℕ) → IsAtWork b c → IsOf b d → c.account.log.seen ≤ front
+pub on-hits : (b : Place) (c d : Seated) (asked : QueryGraph) (budget front : ℕ) (found : List Hit) (rows records : ℕ) → IsAtWork b c → IsOf b d → d.stock ≡ c.stock → c.account.log.seen ≤ front
     → Searched c.account d.account front (Answered asked budget front (reply.Hits found) ∷ []) → Whatever b.shape d.account front (λ h. Counts asked h records) → SaysOfRows b.shape d.account front rows → GoesOn b c d
-on-hits b c d asked budget front found rows records work of later s counted rowed =
-    on-searched b c d front (Answered asked budget front (reply.Hits found) ∷ []) (to_search (hits_at asked budget front found rows records)) work of s
+on-hits b c d asked budget front found rows records work of stock later s counted rowed =
+    on-searched b c d front (Answered asked budget front (reply.Hits found) ∷ []) (to_search (hits_at asked budget front found rows records)) work of stock s
     (hits-answers b.shape c.account d.account asked budget front found rows records later s counted rowed)
 
-pub on-over : (b : Place) (c d : Seated) (asked : QueryGraph) (budget front : ℕ) → IsAtWork b c → IsOf b d → c.account.log.seen ≤ front
+pub on-over : (b : Place) (c d : Seated) (asked : QueryGraph) (budget front : ℕ) → IsAtWork b c → IsOf b d → d.stock ≡ c.stock → c.account.log.seen ≤ front
     → Searched c.account d.account front (Answered asked budget front reply.OverBudget ∷ []) → GoesOn b c d
-on-over b c d asked budget front work of later s =
-    on-searched b c d front (Answered asked budget front reply.OverBudget ∷ []) (to_search (over_at asked budget front)) work of s (over-answers b.shape c.account d.account asked budget front later s)
+on-over b c d asked budget front work of stock later s =
+    on-searched b c d front (Answered asked budget front reply.OverBudget ∷ []) (to_search (over_at asked budget front)) work of stock s (over-answers b.shape c.account d.account asked budget front later s)
 
 -- memory ran out
-pub on-none : (b : Place) (c d : Seated) (front : ℕ) → IsAtWork b c → IsOf b d → Searched c.account d.account front [] → GoesOn b c d
-on-none b c d front work of s =
+pub on-none : (b : Place) (c d : Seated) (front : ℕ) → IsAtWork b c → IsOf b d → d.stock ≡ c.stock → Searched c.account d.account front [] → GoesOn b c d
+on-none b c d front work of stock s =
     let seen = seen_in c.account d.account front [] s in
     let grown = s.grown.seen in
-    on-searched b c d front [] (to_search (not_read 0 0)) work of s (quiet-answers b.shape c.account d.account 0 0 front (omega (arith, seen, grown)) s)
+    on-searched b c d front [] (to_search (not_read 0 0)) work of stock s (quiet-answers b.shape c.account d.account 0 0 front (omega (arith, seen, grown)) s)
 
 -- ---- the query of a file
 

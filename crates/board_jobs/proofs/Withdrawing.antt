@@ -129,9 +129,9 @@ withdrawn-refused b c d e number front why told line_is locked later is called =
       (subst (λ (x : Seated). IsCalled x.account e.account front (refusal number why ∷ [])) locked called));
 }
 
-pub on-withdrawn : (b : Place) (c d e : Seated) (number front at : ℕ) (es : List Entry) (told : WithdrawLine) → IsAtWork b c → IsOf b e → d ≡ with_account c (at_lock c.account front)
+pub on-withdrawn : (b : Place) (c d e : Seated) (number front at : ℕ) (es : List Entry) (told : WithdrawLine) → IsAtWork b c → IsOf b e → e.stock ≡ d.stock → d ≡ with_account c (at_lock c.account front)
     → IsCalled d.account e.account at es → IsWithdrawal b.shape c.account e.account number told → GoesOn b c e
-on-withdrawn b c d e number front at es told work of locked called withdrawal =
+on-withdrawn b c d e number front at es told work of stock locked called withdrawal =
     let late = subst (λ (x : Seated). IsCalled x.account e.account at es) locked called in
     let freed : IsFreed b c.account e.account = record {
       holding = ap (λ l. l.holding) late.log;
@@ -139,4 +139,4 @@ on-withdrawn b c d e number front at es told work of locked called withdrawal =
       who = late.who;
       room = subst (λ r. length r.used ≤ b.shape.room) (sym late.room) work.room;
     } in
-    goes_on-one b c e (to_withdrawal number told) (record { of = of; ready = ready_after b c.account e.account work.ready freed; room = freed.room }) late.who withdrawal.answers
+    goes_on-one b c e (to_withdrawal number told) (record { of = of; ready = ready_after b c e work.ready (stock ∙ ap (λ (x : Seated). x.stock) locked) freed; room = freed.room }) late.who withdrawal.answers

@@ -19,7 +19,7 @@ use Rattle.report_rules.specs.Reports.{IsSearchFor}
 use Rattle.board_core.specs.declared.account.Account.{Account}
 use Rattle.board.specs.Seated.{Place, Seated, IsOf, IsLoader}
 use Rattle.loader.specs.declared.stages.StageError.{StageError}
-use Rattle.loader.specs.declared.stages.StageError.TheVariants.{DataFull}
+use Rattle.loader.specs.declared.stages.StageError.TheVariants.{DataFull, NoPage, ChainFull}
 use Rattle.board_jobs.specs.Telling.{search_entries}
 use Rattle.board_jobs.specs.Answering.{who_of, IsAnswered, AreAnswered}
 use Rattle.board_jobs.specs.Jobs.{IsReady, IsQuietOrFor, AreFirstRecords}
@@ -27,7 +27,7 @@ use Rattle.board_jobs.specs.Jobs.{IsReady, IsQuietOrFor, AreFirstRecords}
 -- one of the board's callers, ready for a call; what it has stored lies within its region
 pub record IsAtWork (b : Place) (c : Seated) : Type 0 where
   pub of : IsOf b c
-  pub ready : IsReady c.account
+  pub ready : IsReady c
   pub room : length c.account.room.used ≤ b.shape.room
 
 -- loads and withdrawals are a loader's
@@ -46,9 +46,11 @@ pub record GoesOn (b : Place) (old new : Seated) : Type 0 where
 abbrev pub Answers : Shape → Account → Account → Answer → Type 0
 Answers k a b answer = (c : Caller) → who_of c ≡ a.who → IsAnswered k c a b answer
 
--- the line of a record that its region has no room for
-abbrev pub room_line : ℕ → StageError → LoadLine
-room_line place (DataFull left need) = line.DataFull place left need
+-- the line of a record that was not staged
+abbrev pub refused_line : ℕ → StageError → LoadLine
+refused_line place (DataFull left need) = line.DataFull place left need
+refused_line place NoPage = line.NoPage place
+refused_line place (ChainFull pages) = line.ChainFull place pages
 
 -- a record is taken, and answered so
 pub record IsTaken (k : Shape) (a b : Account) (place : ℕ) (one : NamedMol) (line : LoadLine) : Type 0 where

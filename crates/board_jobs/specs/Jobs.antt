@@ -12,13 +12,16 @@ use Rattle.report_rules.specs.Dealing.{Caller, loader, searcher}
 use Rattle.report_rules.specs.Reports.{IsAnswerTo, IsSearchFor, budget_or}
 use Rattle.board_core.specs.declared.account.Account.{Account}
 use Rattle.board_core.specs.declared.log.Holding.TheVariants.{Away}
+use Rattle.board.specs.Seated.{Seated}
+use Rattle.class_tree.specs.Inserting.{IsStocked}
 use Rattle.board_jobs.specs.Telling.{search_entries}
 use Rattle.board_jobs.specs.Answering.{AreAnswered}
 
--- the caller is without the lock, and unpinned
-pub record IsReady (a : Account) : Type 0 where
-  pub free : a.log.holding ≡ Away
-  pub unpinned : a.pool.announced ≡ 0
+-- the caller is without the lock, and unpinned, and keeps each own page for later
+pub record IsReady (c : Seated) : Type 0 where
+  pub free : c.account.log.holding ≡ Away
+  pub unpinned : c.account.pool.announced ≡ 0
+  pub stocked : IsStocked c
 
 -- the job's file, if it has one, stands among the files under the job's line
 abbrev pub IsThere : List (ℕ × List ℕ) → ℕ → Order → Type 0

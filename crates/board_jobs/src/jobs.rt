@@ -30,12 +30,12 @@ pub fn do_job<R: Wait>(
     hits: &mut HitList,
 ) -> Result<Block, OutOfMemory>
     requires fits { IsOf board.now caller.old }
-    requires ready { IsReady caller.old.account }
+    requires ready { IsReady caller.old }
     requires room { length caller.old.account.room.used ≤ board.now.shape.room }
     requires file { IsThere files.now job.now.line job.now.order }
     requires order { IsOrderOf caller.old job.now.order }
     ensures of { IsOf board.now caller.new }
-    ensures ready { IsReady caller.new.account }
+    ensures ready { IsReady caller.new }
     ensures room { length caller.new.account.room.used ≤ board.now.shape.room }
     ensures who { caller.new.account.who ≡ caller.old.account.who }
     ensures done { IfOk result (λ block. (c : ScriptCaller) → who_of c ≡ caller.old.account.who

@@ -6,7 +6,7 @@ ghost use Rattle.ctfile.specs.RecordList.{IsRecordList};
 ghost use Rattle.ctfile.specs.Stream.{HasRead};
 ghost use Rattle.board_core.specs.declared.account.Account.{Account};
 ghost use Rattle.board.specs.Seated.{IsLoader};
-ghost use Rattle.board_jobs.specs.Calls.{AreLoaded, GoesOn, HaveBegun, IsAtWork, IsBegun, IsLoaded, IsTaken, room_line};
+ghost use Rattle.board_jobs.specs.Calls.{AreLoaded, GoesOn, HaveBegun, IsAtWork, IsBegun, IsLoaded, IsTaken, refused_line};
 
 use board::{Board, Caller};
 use ctfile::{Next, RecordReader};
@@ -86,8 +86,8 @@ fn publish_read<R: Wait>(
     }
 }
 
-// Publishes a record, and answers its line. The lock is taken once its block is stored. A block that the log has no entry for stays
-// stored.
+// Publishes a record, and answers its line. The lock is taken once the record is staged. A record that the log has no entry for stays
+// staged.
 fn publish_one<R: Wait>(
     rt: &R,
     board: &Board,
@@ -111,14 +111,17 @@ fn publish_one<R: Wait>(
                 Err((LogFull { front }, _)) => LoadLine::LogFull { place, front },
             }
         }
-        Err(refusal) => full_line(place, refusal),
+        Err(refusal) => refused_line(place, refusal),
     }
 }
 
-// The line of a record that the region has no room for.
-fn full_line(place: u32, refusal: StageError) -> LoadLine
-    ensures { result ≡ room_line place refusal }
+// The line of a record that was not staged.
+fn refused_line(place: u32, refusal: StageError) -> LoadLine
+    ensures { result ≡ refused_line place refusal }
 {
-    let StageError::DataFull { left, need } = refusal;
-    LoadLine::DataFull { place, left, need }
+    match refusal {
+        StageError::DataFull { left, need } => LoadLine::DataFull { place, left, need },
+        StageError::NoPage => LoadLine::NoPage { place },
+        StageError::ChainFull { pages } => LoadLine::ChainFull { place, pages },
+    }
 }

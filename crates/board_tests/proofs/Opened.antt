@@ -7,6 +7,7 @@ use Rattle.board_core.specs.declared.account.Who.TheVariants.{Loader, Searcher}
 use Rattle.board.specs.Seated.{Place, Seated, IsNew, AreNew, IsLoader, IsAtRest, number_in}
 use Rattle.board.proofs.Gathers.{first_out}
 use Rattle.board_jobs.specs.Calls.{IsAtWork}
+use Rattle.board_jobs.proofs.Chained.{new_ready}
 use Rattle.script_run.specs.Working.{AreCallers}
 
 pub new_rests : (b : Place) (n : ℕ) (c : Seated) → IsNew b n c → IsAtRest b c
@@ -25,7 +26,7 @@ new_loader b n loaders c same below new =
 pub new_at_work : (b : Place) (n : ℕ) (c : Seated) → IsNew b n c → IsAtWork b c
 new_at_work b n c new = record {
   of = new.of;
-  ready = record { free = ap (λ (a : Account). a.log.holding) new.account; unpinned = ap (λ (a : Account). a.pool.announced) new.account };
+  ready = new_ready b n c new;
   room = subst (λ (a : Account). length a.room.used ≤ b.shape.room) (sym new.account) (omega arith);
 }
 

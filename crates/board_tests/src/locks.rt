@@ -1,5 +1,6 @@
 // The lock, and numbers that no history has.
-ghost use Rattle.board.specs.Seated.{IsLoader, IsAtRest};
+ghost use Rattle.board.specs.Seated.{IsAtRest};
+ghost use Rattle.board_tests.specs.Loading.{CanLoad};
 
 use crate::made::open_two;
 use board::{Board, Caller};
@@ -10,7 +11,7 @@ use std::test::Fail;
 // The lock is taken and given back. Answers the front.
 fn take_and_release<R: Wait>(rt: &R, board: &Board, caller: &mut Caller) -> u32
     requires rest { IsAtRest board.now caller.old }
-    requires loader { IsLoader caller.old }
+    requires loader { CanLoad caller.old }
 {
     let locked = lock(rt, board, caller);
     locked.release(board, caller)
@@ -24,9 +25,9 @@ pub(crate) fn withdraw<R: Wait>(
     number: u32,
 ) -> Result<u32, WithdrawError>
     requires rest { IsAtRest board.now caller.old }
-    requires loader { IsLoader caller.old }
+    requires loader { CanLoad caller.old }
     ensures rest { IsAtRest board.now caller.new }
-    ensures loader { IsLoader caller.new }
+    ensures loader { CanLoad caller.new }
 {
     let locked = lock(rt, board, caller);
     locked.withdraw(board, caller, number)

@@ -1,7 +1,8 @@
 // What several modules of tests begin with: molecules, names, and boards that were just opened.
 ghost use Rattle.std.specs.Prelude.{◌≡◌, ◌+◌, [], ◌∷◌, IfOk};
 ghost use Rattle.htss_defs.specs.Marked.{IsMarked};
-ghost use Rattle.board.specs.Seated.{IsLoader, IsAtRest};
+ghost use Rattle.board.specs.Seated.{IsAtRest};
+ghost use Rattle.board_tests.specs.Loading.{CanLoad};
 ghost use Rattle.board_jobs.specs.Calls.{IsAtWork};
 ghost use Rattle.script_run.specs.Working.{AreCallers};
 
@@ -34,7 +35,7 @@ pub(crate) fn named(bytes: &[u8]) -> Result<Name, Fail> {
 
 // A new board, its loader and its searcher.
 pub(crate) fn open_two(alloc: Global, room: u32, log: u32) -> Result<(Board, Caller, Caller), Fail>
-    ensures loader { IfOk result (λ r. IsAtRest r.0 r.1 × IsLoader r.1) }
+    ensures loader { IfOk result (λ r. IsAtRest r.0 r.1 × CanLoad r.1) }
     ensures searcher { IfOk result (λ r. IsAtRest r.0 r.2) }
     ensures work { IfOk result (λ r. IsAtWork r.0 r.1 × IsAtWork r.0 r.2) }
     ensures all { IfOk result (λ r. AreCallers r.0 (r.1 ∷ r.2 ∷ [])) }
@@ -56,8 +57,8 @@ pub(crate) fn open_two(alloc: Global, room: u32, log: u32) -> Result<(Board, Cal
 
 // A new board, its two loaders and its searcher.
 pub(crate) fn open_three(alloc: Global) -> Result<(Board, Caller, Caller, Caller), Fail>
-    ensures first { IfOk result (λ r. IsAtRest r.0 r.1 × IsLoader r.1) }
-    ensures second { IfOk result (λ r. IsAtRest r.0 r.2 × IsLoader r.2) }
+    ensures first { IfOk result (λ r. IsAtRest r.0 r.1 × CanLoad r.1) }
+    ensures second { IfOk result (λ r. IsAtRest r.0 r.2 × CanLoad r.2) }
     ensures searcher { IfOk result (λ r. IsAtRest r.0 r.3) }
 {
     let shape = Shape {

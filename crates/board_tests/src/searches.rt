@@ -1,7 +1,8 @@
 // Searches of a board beside what loaders do.
 ghost use Rattle.std.specs.Prelude.{◌≡◌, ◌+◌, OnOk};
 ghost use Rattle.htss_defs.specs.Marked.{IsMarked};
-ghost use Rattle.board.specs.Seated.{IsOf, IsLoader, IsAtRest};
+ghost use Rattle.board.specs.Seated.{IsOf, IsAtRest};
+ghost use Rattle.board_tests.specs.Loading.{CanLoad};
 ghost use Rattle.board.specs.Staging.{IsStaged};
 ghost use Rattle.pub_log.specs.Locking.{IsHeld};
 
@@ -32,11 +33,11 @@ fn any_carbon(alloc: Global) -> Result<Query, Fail> {
 // The lock is taken. A record that was staged before is staged still.
 fn lock_with<R: Wait>(rt: &R, board: &Board, caller: &mut Caller, staged: &Staged) -> Locked
     requires rest { IsAtRest board.now caller.old }
-    requires loader { IsLoader caller.old }
+    requires loader { CanLoad caller.old }
     requires staged { IsStaged board.now.shape caller.old.account staged.now }
     ensures of { IsOf board.now caller.new }
     ensures unpinned { caller.new.account.pool.announced ≡ 0 }
-    ensures loader { IsLoader caller.new }
+    ensures loader { CanLoad caller.new }
     ensures held { IsHeld board.now.shape caller.new.account result }
     ensures staged { IsStaged board.now.shape caller.new.account staged.now }
 {
@@ -52,10 +53,10 @@ fn publish<R: Wait>(
     name: &[u8],
 ) -> Result<Result<u32, LogFull>, Fail>
     requires rest { IsAtRest board.now caller.old }
-    requires loader { IsLoader caller.old }
+    requires loader { CanLoad caller.old }
     requires marked { IsMarked mol.now }
     ensures rest { OnOk result (IsAtRest board.now caller.new) }
-    ensures loader { OnOk result (IsLoader caller.new) }
+    ensures loader { OnOk result (CanLoad caller.new) }
 {
     let staged = stage_at_rest(board, caller, mol, &named(name)?)?;
     let locked = lock_with(rt, board, caller, &staged);
@@ -214,10 +215,10 @@ fn take_step<R: Abort + Wait>(
     step: &Step,
 ) -> Result<(), Fail>
     requires rest { IsAtRest board.now loader.old }
-    requires loader { IsLoader loader.old }
+    requires loader { CanLoad loader.old }
     requires searches { IsAtRest board.now searcher.old }
     ensures rest { OnOk result (IsAtRest board.now loader.new) }
-    ensures loader { OnOk result (IsLoader loader.new) }
+    ensures loader { OnOk result (CanLoad loader.new) }
     ensures searches { OnOk result (IsAtRest board.now searcher.new) }
 {
     match step {

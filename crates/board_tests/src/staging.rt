@@ -1,7 +1,8 @@
 // Records that are staged.
 ghost use Rattle.std.specs.Prelude.{IfOk};
 ghost use Rattle.htss_defs.specs.Marked.{IsMarked};
-ghost use Rattle.board.specs.Seated.{IsLoader, IsAtRest};
+ghost use Rattle.board.specs.Seated.{IsAtRest};
+ghost use Rattle.board_tests.specs.Loading.{CanLoad};
 ghost use Rattle.board.specs.Staging.{IsStaged};
 
 use crate::made::{CARBON, molecule, named, open_two};
@@ -18,10 +19,10 @@ pub(crate) fn stage_at_rest(
     name: &Name,
 ) -> Result<Staged, StageError>
     requires rest { IsAtRest board.now caller.old }
-    requires loader { IsLoader caller.old }
+    requires loader { CanLoad caller.old }
     requires marked { IsMarked mol.now }
     ensures rest { IsAtRest board.now caller.new }
-    ensures loader { IsLoader caller.new }
+    ensures loader { CanLoad caller.new }
     ensures staged { IfOk result (λ s. IsStaged board.now.shape caller.new.account s) }
 {
     stage(board, caller, mol, name)

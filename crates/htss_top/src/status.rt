@@ -4,7 +4,7 @@ ghost use Rattle.std.specs.Process.{exit_status};
 ghost use Rattle.command_words.specs.Tasks.{task_of};
 ghost use Rattle.command_ends.specs.Completeness.{Completes};
 ghost use Rattle.command_ends.specs.Ends.{Ends, seen, seen_out};
-ghost use Rattle.htss_main.specs.Exit.{AreUnread};
+ghost use Rattle.htss_top.specs.Exit.{AreUnread};
 
 use crate::top::htss;
 use command_ends::{Stop, refuse};

@@ -1,1 +1,3 @@
 pub mod Sealing
+pub mod BlockRows
+pub mod Staged

@@ -22,8 +22,8 @@ use Rattle.block_words.specs.Writing.{size_of, written}
 use Rattle.block_words.proofs.Places.{size_least, at_mark}
 use Rattle.block_words.proofs.Shows.{ShowsRecord, written_shows}
 use Rattle.board.specs.Seated.{Place, Seated, IsLoader, with_account, number_of}
-use Rattle.board.specs.Staging.{IsStaged}
-use Rattle.loader.specs.Stages.{next_block, staging, after_words, after_stage}
+use Rattle.board.specs.Staging.{IsWritten}
+use Rattle.loader.specs.Stages.{next_block, staging, after_words, after_block}
 
 -- ---- the words of the region
 
@@ -88,7 +88,7 @@ may_seal k a name mol i last named valid marked known =
 
 -- the account after it
 seal_more : (a : Account) (name : List ℕ) (mol : Molecule) (block i : ℕ) → i + 1 ≡ size_of name mol
-    → after_word (after_words a (first_of (written name mol) i)) (written name mol i) (record { place = block; size = size_of name mol } ∷ []) ≡ after_stage a record { block = block; name = name; mol = mol }
+    → after_word (after_words a (first_of (written name mol) i)) (written name mol i) (record { place = block; size = size_of name mol } ∷ []) ≡ after_block a record { block = block; name = name; mol = mol }
 seal_more a name mol block i last =
     let used = used_more a.room.used (written name mol) i (size_of name mol) last in
     λ t. record a { room = record a.room { used = used t; sealed = a.room.sealed ++ record { place = block; size = size_of name mol } ∷ [] } }
@@ -108,18 +108,27 @@ in_table k a size until room some_words = let least = region_least k a.who in re
     high from long l h = omega arith
 
 -- a block that was published was sealed, and so lies before this one
-pub is_staged : (k : Shape) (a : Account) (name : List ℕ) (mol : Molecule) → IsName name → IsMolecule mol → IsMarked mol → IsKnownRoom k a → IsInTable k (next_block k a) → IsStaged k (after_stage a (staging k a name mol)) (staging k a name mol)
-is_staged k a name mol named valid marked known there =
+pub is_written : (k : Shape) (a : Account) (name : List ℕ) (mol : Molecule) → IsName name → IsMolecule mol → IsMarked mol → IsKnownRoom k a → IsInTable k (next_block k a) → IsWritten k (after_block a (staging k a name mol)) (staging k a name mol)
+is_written k a name mol named valid marked known there =
     let shows = shows_record k a name mol (a.room.used ++ first_of (written name mol) (size_of name mol)) refl named valid marked in record {
       sealed = (length a.room.sealed, record { place = next_block k a; size = size_of name mol }, at_last a.room.sealed (record { place = next_block k a; size = size_of name mol }), refl);
       fresh = λ t. let (n, s, here, is) = known.listed (next_block k a) t in let before = known.before n s here in absurd (not_itself s.place (next_block k a) is before);
       place = there;
+      from = low (region_of k a.who) (length a.room.used);
+      until = ends (region_of k a.who) (length a.room.used) (size_of name mol) (length (a.room.used ++ first_of (written name mol) (size_of name mol)))
+          (length-append a.room.used (first_of (written name mol) (size_of name mol)) ∙ ap (λ (n : ℕ). length a.room.used + n) (length_first (written name mol) (size_of name mol))) shows.size;
       name_is = shows.name;
       mol_is = shows.molecule;
     }
   where
     not_itself : (x y : ℕ) → x ≡ y → x < y → ⊥
     not_itself x y e l = omega arith
+
+    low : (from long : ℕ) → from ≤ from + long
+    low from long = omega arith
+
+    ends : (from long size all : ℕ) {own : ℕ} → all ≡ long + size → own ≡ size → from + long + own ≤ from + all
+    ends from long size all e h = omega arith
 
 -- ---- the caller
 
@@ -139,7 +148,7 @@ seal_asked k c d name mol i word place size same is here long last named valid m
     subst (λ (x : Seated × ℕ × ℕ × ℕ). MaySeal k x.0.account x.1 (record { place = x.2; size = x.3 })) (λ t. (sym same t, sym is t, sym here t, sym long t)) (may_seal k c.account name mol i last named valid marked known)
 
 pub last_word : (k : Shape) (c d e : Seated) (name : List ℕ) (mol : Molecule) (i word place size : ℕ) → d ≡ with_account c (after_words c.account (first_of (written name mol) i)) → word ≡ written name mol i → place ≡ next_block k c.account → size ≡ size_of name mol → i + 1 ≡ size_of name mol
-    → e ≡ with_account d (after_word d.account word (record { place = place; size = size } ∷ [])) → e ≡ with_account c (after_stage c.account (staging k c.account name mol))
+    → e ≡ with_account d (after_word d.account word (record { place = place; size = size } ∷ [])) → e ≡ with_account c (after_block c.account (staging k c.account name mol))
 last_word k c d e name mol i word place size same is here long last after =
     after ∙ (λ t. with_account (same t) (after_word (same t).account (is t) (record { place = here t; size = long t } ∷ []))) ∙ ap (with_account c) (seal_more c.account name mol (next_block k c.account) i last)
 

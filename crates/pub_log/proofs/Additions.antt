@@ -9,7 +9,7 @@ use Rattle.board_core.specs.Blocks.{name_in, molecule_in}
 use Rattle.board_core.specs.RoomRule.{own_block, store_of}
 use Rattle.board_core.specs.LogRule.{word_or_0}
 use Rattle.board_core.specs.LogWord.{kind_in, loader_in, target_in, publication_word, withdrawal_word}
-use Rattle.board_core.specs.Steps.{MayLog, MayMark, event_by}
+use Rattle.board_core.specs.Steps.{MayLog, MayMark, MayPublish, event_by}
 use Rattle.board_core.specs.After.{after_shows, after_ends, after_logged, after_event, after_free}
 use Rattle.board_core.proofs.Fields.{target_back, loader_back, kind_back}
 use Rattle.board.specs.Seated.{Seated, IsLoader, with_account, number_of}
@@ -50,10 +50,19 @@ publication_shows k a loader s staged few small =
     let other : kind_in word ≢ 2 = λ two. one_two (kind_in word) one two in
     ap (λ (b : Bool). cond b (Withdraw (loader_in word) (target_in word)) (Publish (loader_in word) (name_in (own_block k (store_of a) (target_in word))) (molecule_in (own_block k (store_of a) (target_in word))))) (ne_eqb (kind_in word) 2 other)
     ∙ ((λ i. Publish (loader_back 1 loader s.block few small i) (name_in (own_block k (store_of a) (target_back 1 loader s.block few small i))) (molecule_in (own_block k (store_of a) (target_back 1 loader s.block few small i))))
-    ∙ (λ i. Publish loader (staged.name_is i) (staged.mol_is i)))
+    ∙ (λ i. Publish loader (staged.written.name_is i) (staged.written.mol_is i)))
   where
     one_two : (z : ℕ) → z ≡ 1 → z ≡ 2 → ⊥
     one_two z a b = absurd (omega arith)
+
+-- and its mark may be stored
+pub may_publish : (k : Shape) (a : Account) (s : Staging) (block : ℕ) → block ≡ s.block → IsHeld k a a.log.seen → a.log.seen < k.log → IsStaged k a s → MayPublish k a block
+may_publish k a s block is h room staged = subst (MayPublish k a) (sym is) record {
+  may = record { holding = h.holding; room = room; quiet = h.quiet };
+  sealed = staged.written.sealed;
+  fresh = staged.written.fresh;
+  placed = staged.placed;
+}
 
 pub publication_added : (k : Shape) (c d e f g : Seated) (s : Staging) (n word : ℕ) → IsStaged k c.account s → n ≡ number_of c → n < 2 ^ 8 → s.block < 2 ^ 40 → word ≡ publication_word n s.block
     → d ≡ with_account c (after_shows c.account s.block) → e ≡ with_account d (after_logged d.account word)

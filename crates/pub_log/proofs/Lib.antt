@@ -1,4 +1,4 @@
-pub mod Staged
 pub mod Calls
 pub mod Reasons
 pub mod Additions
+pub mod Others

@@ -1,11 +1,11 @@
 // The lock is taken, and one thing is done under it.
-ghost use Rattle.std.specs.Prelude.{◌≡◌, ◌+◌, ◌<◌, ◌≤◌, [], ◌∷◌, IfOk, IfErr};
+ghost use Rattle.std.specs.Prelude.{◌≡◌, ◌+◌, ◌<◌, ◌≤◌, [], ◌∷◌, IfOk, IfErr, MatchResult};
 ghost use Rattle.htss_defs.specs.declared.history.Event.TheVariants.{Withdraw};
 ghost use Rattle.board_core.specs.declared.entry.Entry.TheVariants.{Withdrawn, LogFull as Full};
 ghost use Rattle.board_core.specs.declared.log.Holding.TheVariants.{Away};
 ghost use Rattle.board_core.specs.After.{after_take, after_front, after_free};
 ghost use Rattle.board.specs.Seated.{IsOf, IsLoader, with_account, number_of};
-ghost use Rattle.board.specs.Staging.{IsStaged};
+ghost use Rattle.board.specs.Staging.{IsStaged, StayStaged, StayStagedBut};
 ghost use Rattle.pub_log.specs.Locking.{IsHeld, IsCalled, IsRefusal, after_publication, refusal, IsToldBy};
 
 use crate::appends::{append_publication, append_withdrawal};
@@ -75,7 +75,7 @@ impl Locked {
     }
 
     /// Appends the publication of a staged record of the caller's own, and answers its number. It is refused exactly where the log is
-    /// full; then the staged record is handed back as it was.
+    /// full; then the staged record is handed back as it was. Other records that are staged stay so.
     pub fn publish(
         self,
         board: &Board,
@@ -88,6 +88,8 @@ impl Locked {
         requires staged { IsStaged board.now.shape caller.old.account staged }
         ensures ok { IfOk result (λ n. (n ≡ self + 1) × (self < board.now.shape.log)
             × (caller.new ≡ with_account caller.old (after_publication caller.old.account (number_of caller.old) staged))) }
+        ensures others { MatchResult result (λ _. StayStagedBut staged.block board.now.shape caller.old.account caller.new.account)
+            (λ _. StayStaged board.now.shape caller.old.account caller.new.account) }
         ensures full { IfErr result (λ e. (e.0.front ≡ self) × (self ≡ board.now.shape.log) × (e.1 ≡ staged)
             × (caller.new ≡ with_account caller.old (after_free caller.old.account (Full self ∷ [])))) }
     {
@@ -113,6 +115,7 @@ impl Locked {
         requires held { IsHeld board.now.shape caller.old.account self }
         requires loader { IsLoader caller.old }
         ensures of { IsOf board.now caller.new }
+        ensures stock { caller.new.stock ≡ caller.old.stock }
         ensures ok { IfOk result (λ n. (n ≡ self + 1) × (self < board.now.shape.log)
             × IsCalled caller.old.account caller.new.account n (Withdrawn n (Withdraw (number_of caller.old) number) ∷ [])) }
         ensures refused { IfErr result (λ e. IsRefusal board.now.shape caller.new.account self number e

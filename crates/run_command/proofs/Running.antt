@@ -30,18 +30,19 @@ use Rattle.board_core.specs.LogRule as log
 use Rattle.board_core.specs.Steps.{MayBe}
 use Rattle.board_core.specs.Truths.{IsTrueStory}
 use Rattle.board_core.specs.Words.{Parts}
-use Rattle.board.specs.Closed.{Closing, IsSettled}
+use Rattle.board.specs.Closed.{Closing, IsSettled, IsShown}
 use Rattle.board.specs.Seated.{IsAtRest, Place, Seated, account_of}
 use Rattle.board.specs.Seated as seated
 use Rattle.board_jobs.specs.Groups.{AreNew}
 use Rattle.board_jobs.specs.Ends.{IsEnd}
 use Rattle.board_jobs.specs.Jobs.{IsThere}
 use Rattle.board_jobs.specs.Rows.{HaveTheirRows}
+use Rattle.board_jobs.proofs.Chained.{new_ready}
 use Rattle.board_jobs.proofs.Named.{named, whole}
 use Rattle.board_jobs.proofs.Places.{map_back}
 use Rattle.board_jobs.proofs.Printing.{entries_printed}
 use Rattle.board_jobs.proofs.Reported.{reported}
-use Rattle.board_jobs.proofs.Ruled.{apart, rowed, ruled}
+use Rattle.board_jobs.proofs.Ruled.{roomed, rowed, ruled}
 use Rattle.board_jobs.proofs.Told.{all_dealt}
 use Rattle.script_run.specs.declared.gate.Worker.{Worker}
 use Rattle.script_run.specs.Working.{AreCallers}
@@ -284,9 +285,10 @@ run_is told script groups shape budget accounts text text_now last limits closed
             ∙ ap (λ t. t ++ log_text (map log_line last.history)) (done.text_is ∙ begun_is groups shape budget (map done_block done.done) (script_has_group told script groups read))
             ∙ sym (report_is shape budget (map done_block done.done) last.history);
       };
-      apart = apart shape done.files budget groups done.new accounts accounts done.front done.done words limits done.are_new done.are_done (gone_here shape accounts) end;
+      rooms = roomed shape done.files budget groups done.new accounts accounts done.front done.done words limits done.are_new done.are_done (gone_here shape accounts) end;
       rows = subst (λ (h : List Event). HaveTheirRows h (flat_map done_lines done.done)) whole_is
           (rowed shape done.files budget groups done.new accounts accounts done.front done.done words limits done.are_new done.are_done (gone_here shape accounts) end);
+      same = refl;
       events = refl;
       shape_is = closed.shape_is;
       settled = closed.settled;
@@ -299,19 +301,19 @@ run_is told script groups shape budget accounts text text_now last limits closed
 -- ---- the end of a board
 
 -- what a closed board says of itself is its end
-settled_end : (shape : Shape) (accounts : List Account) (last : Closing) → IsSettled last → last.shape ≡ shape → last.accounts ≡ accounts → length accounts ≡ shape.loaders + shape.searchers → ((i : ℕ) (a : Account) → get_elem? accounts i ≡ some a → a.who ≡ caller_after shape i) → HasEnd shape accounts last.history
-settled_end shape accounts last settled shape_is accounts_are count callers = record {
-  words = settled.words;
+settled_end : (shape : Shape) (accounts : List Account) (last : Closing) → IsSettled last → IsShown last → last.shape ≡ shape → last.accounts ≡ accounts → length accounts ≡ shape.loaders + shape.searchers → ((i : ℕ) (a : Account) → get_elem? accounts i ≡ some a → a.who ≡ caller_after shape i) → HasEnd shape accounts last.history
+settled_end shape accounts last settled shown shape_is accounts_are count callers = record {
+  words = shown.words;
   end = record {
-    may = subst (λ (l : List Account). Each (MayBe shape settled.words) l) accounts_are (subst (λ (k : Shape). Each (MayBe k settled.words) last.accounts) shape_is settled.may);
-    stories = subst (λ (l : List Account). Each (λ a. IsTrueStory shape (history_of shape settled.words) a.who a.entries) l) accounts_are
-        (subst (λ (k : Shape). Each (λ a. IsTrueStory k (history_of k settled.words) a.who a.entries) last.accounts) shape_is
-        (subst (λ (h : List Event). Each (λ a. IsTrueStory last.shape h a.who a.entries) last.accounts) (sym settled.shows) settled.stories));
-    loaders = subst (λ (k : Shape). Each (log.IsByLoader k) (history_of k settled.words)) shape_is (subst (λ (h : List Event). Each (log.IsByLoader last.shape) h) (sym settled.shows) settled.loaders);
+    may = subst (λ (l : List Account). Each (MayBe shape shown.words) l) accounts_are (subst (λ (k : Shape). Each (MayBe k shown.words) last.accounts) shape_is shown.may);
+    stories = subst (λ (l : List Account). Each (λ a. IsTrueStory shape (history_of shape shown.words) a.who a.entries) l) accounts_are
+        (subst (λ (k : Shape). Each (λ a. IsTrueStory k (history_of k shown.words) a.who a.entries) last.accounts) shape_is
+        (subst (λ (h : List Event). Each (λ a. IsTrueStory last.shape h a.who a.entries) last.accounts) (sym shown.shows) settled.stories));
+    loaders = subst (λ (k : Shape). Each (log.IsByLoader k) (history_of k shown.words)) shape_is (subst (λ (h : List Event). Each (log.IsByLoader last.shape) h) (sym shown.shows) settled.loaders);
     count = count;
     callers = callers;
   };
-  shows = ap (λ (k : Shape). history_of k settled.words) (sym shape_is) ∙ settled.shows;
+  shows = ap (λ (k : Shape). history_of k shown.words) (sym shape_is) ∙ shown.shows;
 }
 
 -- the accounts of workers are those of their callers
@@ -322,8 +324,8 @@ accounts_are (w ∷ ws) = ap (λ (l : List Account). w.caller.account ∷ l) (ac
 pub callers_count : {G : Type 0} (workers : List (Worker G)) → length (callers_of workers) ≡ length workers
 callers_count workers = length-map workers (λ w. w.caller)
 
-pub closed_with : {G : Type 0} (b : Place) (workers : List (Worker G)) (last : Closing) → AreCallers b (callers_of workers) → last.shape ≡ b.shape → last.accounts ≡ map account_of (callers_of workers) → IsSettled last → IsClosedWith b.shape (accounts_of workers) last
-closed_with b workers last are shape_is accounts_is settled =
+pub closed_with : {G : Type 0} (b : Place) (workers : List (Worker G)) (last : Closing) → AreCallers b (callers_of workers) → last.shape ≡ b.shape → last.accounts ≡ map account_of (callers_of workers) → IsSettled last → IsShown last → IsClosedWith b.shape (accounts_of workers) last
+closed_with b workers last are shape_is accounts_is settled shown =
     let count : length (accounts_of workers) ≡ b.shape.loaders + b.shape.searchers = ap length (sym (accounts_are workers)) ∙ length-map (callers_of workers) account_of ∙ are.count in
     let callers : (i : ℕ) (a : Account) → get_elem? (accounts_of workers) i ≡ some a → a.who ≡ caller_after b.shape i =
     λ i a there.
@@ -333,7 +335,7 @@ closed_with b workers last are shape_is accounts_is settled =
     record {
       shape_is = shape_is;
       accounts_are = now;
-      end = settled_end b.shape (accounts_of workers) last settled shape_is now count callers;
+      end = settled_end b.shape (accounts_of workers) last settled shown shape_is now count callers;
       settled = settled;
     }
 
@@ -347,7 +349,7 @@ new_callers b callers count new = record {
   count = count;
   each = λ i c there.
       let one = new i c there in
-      (one.of, ap (λ (a : Account). a.who) one.account, record { free = ap (λ (a : Account). a.log.holding) one.account; unpinned = ap (λ (a : Account). a.pool.announced) one.account });
+      (one.of, ap (λ (a : Account). a.who) one.account, new_ready b i c one);
   room = λ i c there. let one = new i c there in subst (λ (a : Account). length a.room.used ≤ b.shape.room) (sym one.account) (omega arith);
 }
 

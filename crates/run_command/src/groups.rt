@@ -96,6 +96,7 @@ fn do_group<'a, R: Threads + Wait + Sync, F: Shelf>(
 }
 
 // Does the jobs of a group and appends their blocks, after the first line where there is no text yet.
+#[inline(never)]
 fn append_group<R: Threads + Wait + Sync>(
     rt: &R,
     alloc: Global,

@@ -16,6 +16,7 @@ use script_text::{Files, Job, Order};
 use std::alloc::Global;
 
 /// The files of these jobs by their lines, read in the order of the lines.
+#[inline(never)]
 pub fn read_files<'a, F: Shelf>(
     alloc: Global,
     jobs: &'a [Job],

@@ -84,6 +84,7 @@ fn with_board(status: u8, last: Final) -> Ended
 }
 
 // The script of this name.
+#[inline(never)]
 fn script_of<'a, F: Shelf>(alloc: Global, name: &'a str, shelf: &mut F) -> Result<Script, Stop<'a>>
     ensures read { IfOk result (λ script. ScriptWasRead (F.told shelf.old) name.now script.groups) }
     ensures stop { IfErr result (λ stop. (shape : Shape) (budget : ℕ) → MayStop (run_of name.now shape budget)
@@ -104,6 +105,7 @@ fn script_of<'a, F: Shelf>(alloc: Global, name: &'a str, shelf: &mut F) -> Resul
 }
 
 // Runs the groups on a new board and appends the report of them; after a stop the text is what there is of it.
+#[inline(never)]
 fn run_script<'a, R: Threads + Wait + Sync, F: Shelf>(
     rt: &R,
     alloc: Global,

@@ -11,6 +11,7 @@ use Rattle.board_jobs.proofs.Places.{at_map, map_back}
 use Rattle.board_jobs.specs.Answering.{who_of}
 use Rattle.board_jobs.specs.Ends.{caller_at}
 use Rattle.board_jobs.specs.Groups.{HaveMet, with_seen}
+use Rattle.board_jobs.proofs.Chained.{stocked_after}
 use Rattle.script_run.specs.declared.gate.Worker.{Worker}
 use Rattle.script_run.specs.Meeting.{SawMost, seen_at}
 use Rattle.script_run.specs.Walking.{CanWork, IsWorker}
@@ -68,7 +69,7 @@ seen_callers b front cs all =
     let before = all.each i c here in
     let can : CanWork b (seen_at front c) = record {
       of = record { table = before.0.table; shape = before.0.shape };
-      ready = record { free = before.2.free; unpinned = before.2.unpinned };
+      ready = record { free = before.2.free; unpinned = before.2.unpinned; stocked = stocked_after c (seen_at front c) refl refl before.2.stocked };
       room = all.room i c here;
     } in
     let has : Seated → Type 0 = λ x. CanWork b x × (x.account.who ≡ c.account.who) in

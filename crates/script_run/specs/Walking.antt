@@ -19,7 +19,7 @@ use Rattle.script_run.specs.Working.{OwnBroken, OwnDone}
 -- one of the board's callers, ready for a job; what it has stored lies within its region
 pub record CanWork (b : Place) (c : Seated) : Type 0 where
   pub of : IsOf b c
-  pub ready : IsReady c.account
+  pub ready : IsReady c
   pub room : length c.account.room.used ≤ b.shape.room
 
 -- it is a loader or a searcher

@@ -8,7 +8,7 @@ ghost use Rattle.board_jobs.specs.Groups.{place_of};
 
 use board::Caller;
 use htss_defs::Shape;
-use script_text::Order;
+use script_text::{Group, Order};
 
 /// How many loads and withdrawals, and how many searches, were dealt so far.
 #[derive(Clone, Copy)]
@@ -33,6 +33,29 @@ pub fn counted(count: Count, order: &Order) -> Count
             loads,
             searches: searches + 1,
         },
+    }
+}
+
+/// How many loads and withdrawals, and how many searches, a group has.
+pub fn jobs_in(group: &Group) -> Count {
+    let jobs = group.jobs.as_slice();
+    let searches = jobs
+        .iter()
+        .filter(|job| matches!(job.order, Order::Search { .. }))
+        .count();
+    Count {
+        loads: jobs.len().saturating_sub(searches),
+        searches,
+    }
+}
+
+/// Whether a caller has a job in a group that has so many.
+pub fn has_job(caller: &Caller, jobs: Count) -> bool {
+    let number = caller.number() as usize;
+    if caller.is_loader() {
+        number <= jobs.loads
+    } else {
+        number <= jobs.searches
     }
 }
 

@@ -8,7 +8,7 @@ ghost use Rattle.board_jobs.specs.Calls.{IsOrderOf};
 ghost use Rattle.script_run.specs.Walking.{CanWork, IsWorker, DidJobs, JobBroke, Broke, DidOwn, DidAll};
 ghost use Rattle.script_run.specs.Passing.{before_job, around_job, HasPassed, PassedOwn, PassedFront, Passed, AllPassed};
 
-use crate::dealing::{Count, counted, is_own};
+use crate::dealing::{Count, counted, has_job, is_own, jobs_in};
 use crate::gate::{Gate, Place, Worker};
 use board::Board;
 use board_jobs::do_job;
@@ -115,7 +115,9 @@ fn do_all<R: Wait, G: Gate>(
     Ok(())
 }
 
-// Does the jobs of the group that are dealt to this worker.
+// Does the jobs of the group that are dealt to this worker. It stands apart from the halving, so that each level of that takes little
+// of a stack.
+#[inline(never)]
 fn work<R: Wait, G: Gate>(
     rt: &R,
     alloc: Global,
@@ -139,7 +141,7 @@ fn work<R: Wait, G: Gate>(
     };
 }
 
-/// Each worker does its jobs of the group, beside the others.
+/// Each worker does its jobs of the group, beside the others that have some.
 pub fn work_all<R: Threads + Wait + Sync, G: Gate + Send>(
     rt: &R,
     alloc: Global,
@@ -156,10 +158,23 @@ pub fn work_all<R: Threads + Wait + Sync, G: Gate + Send>(
     ensures did { DidAll board.now files.now budget group.now.jobs (map (λ w. w.caller) workers.old) (map (λ w. w.caller) workers.new) outcomes.new }
     ensures gates { AllPassed G.passed board.now.shape group.now.jobs workers.old workers.new outcomes.new }
 {
-    work_halves(rt, &alloc, board, workers, group, files, &budget, outcomes);
+    let jobs = jobs_in(group);
+    work_halves(
+        rt, &alloc, board, workers, group, files, &budget, &jobs, outcomes,
+    );
 }
 
-// One half of the workers beside the other. What is lent to both threads comes by reference: what they write is known only then.
+// Whether none of these workers has a job in a group that has so many.
+fn are_idle<G>(workers: &[Worker<G>], jobs: Count) -> bool {
+    for worker in workers {
+        if has_job(&worker.caller, jobs) {
+            return false;
+        }
+    }
+    true
+}
+
+// One half of the workers beside the other, or before it where one of them has nothing to do. What is lent to both threads comes by reference: what they write is known only then.
 fn work_halves<R: Threads + Wait + Sync, G: Gate + Send>(
     rt: &R,
     alloc: &Global,
@@ -168,6 +183,7 @@ fn work_halves<R: Threads + Wait + Sync, G: Gate + Send>(
     group: &Group,
     files: &Files,
     budget: &u64,
+    jobs: &Count,
     outcomes: &mut [Outcome],
 )
     requires workers { All (IsWorker board.now) (map (λ w. w.caller) workers.old) }
@@ -185,6 +201,11 @@ fn work_halves<R: Threads + Wait + Sync, G: Gate + Send>(
     let half = workers.len() / 2;
     let (front, back) = workers.split_at_mut(half);
     let (first, last) = outcomes.split_at_mut(half);
+    if are_idle(front, *jobs) || are_idle(back, *jobs) {
+        work_halves(rt, alloc, board, front, group, files, budget, jobs, first);
+        work_halves(rt, alloc, board, back, group, files, budget, jobs, last);
+        return;
+    }
     join_mut(
         rt,
         &mut ||
@@ -193,13 +214,13 @@ fn work_halves<R: Threads + Wait + Sync, G: Gate + Send>(
             ensures { DidAll board.entry.now files.entry.now budget.entry.now group.entry.now.jobs
                 (map (λ w. w.caller) front.entry.now) (map (λ w. w.caller) front.exit.now) first.exit.now
                 × AllPassed G.passed board.entry.now.shape group.entry.now.jobs front.entry.now front.exit.now first.exit.now }
-        { work_halves(rt, alloc, board, front, group, files, budget, first) },
+        { work_halves(rt, alloc, board, front, group, files, budget, jobs, first) },
         &mut ||
             requires { IsSync R.row × IsSend G.row × All (IsWorker board.now) (map (λ w. w.caller) back.now)
                 × All (λ job. IsThere files.now job.line job.order) group.now.jobs × (length last.now ≡ length back.now) }
             ensures { DidAll board.entry.now files.entry.now budget.entry.now group.entry.now.jobs
                 (map (λ w. w.caller) back.entry.now) (map (λ w. w.caller) back.exit.now) last.exit.now
                 × AllPassed G.passed board.entry.now.shape group.entry.now.jobs back.entry.now back.exit.now last.exit.now }
-        { work_halves(rt, alloc, board, back, group, files, budget, last) },
+        { work_halves(rt, alloc, board, back, group, files, budget, jobs, last) },
     );
 }

@@ -82,6 +82,7 @@ fn fill(
     requires front { front ≤ board.now.shape.log }
     requires empty { hits.old ≡ no_hits }
     ensures of { IsOf board.now caller.new }
+    ensures stock { caller.new.stock ≡ caller.old.stock }
     ensures reads { Reads caller.old.account caller.new.account }
     ensures once { LoadsOnce caller.old.account caller.new.account front }
     ensures found { OnOk result (AreFound board.now.shape caller.new.account query.now budget front hits.new) }
@@ -120,6 +121,7 @@ pub fn search(
     requires fits { IsOf board.now caller.old }
     requires unpinned { caller.old.account.pool.announced ≡ 0 }
     ensures of { IsOf board.now caller.new }
+    ensures stock { caller.new.stock ≡ caller.old.stock }
     ensures found { IfOk result (λ f. (caller.old.account.log.seen ≤ f)
         × IsSearched caller.old.account caller.new.account f (Answered query.now budget f (Hits hits.new.hits) ∷ [])) }
     ensures records { IfOk result (λ f. Whatever board.now.shape caller.new.account f (λ h. Counts query.now h hits.new.records)) }

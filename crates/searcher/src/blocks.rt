@@ -18,6 +18,7 @@ fn load_word(board: &Board, caller: &mut Caller, block: u64, head: u64, index: u
     requires place { block + block_size head ≤ total_of board.now.shape }
     requires word { (3 ≤ index) × (index < block_size head) }
     ensures of { IsOf board.now caller.new }
+    ensures stock { caller.new.stock ≡ caller.old.stock }
     ensures reads { Reads caller.old.account caller.new.account }
     ensures may { MayBeSome board.now.shape caller.new.account }
     ensures word { HasWord caller.new.account block head index result }
@@ -40,6 +41,7 @@ pub(crate) fn load_block(board: &Board, caller: &mut Caller, block: u64, words: 
     requires place { IsInTable board.now.shape block }
     requires room { length words.old ≡ 7200 }
     ensures of { IsOf board.now caller.new }
+    ensures stock { caller.new.stock ≡ caller.old.stock }
     ensures reads { Reads caller.old.account caller.new.account }
     ensures may { MayBeSome board.now.shape caller.new.account }
     ensures size { length words.new ≡ 7200 }

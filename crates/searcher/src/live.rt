@@ -23,6 +23,7 @@ fn open_block(board: &Board, caller: &mut Caller, front: u32, number: u32) -> Op
     requires front { front ≤ board.now.shape.log }
     requires number { (0 < number) × (number ≤ front) }
     ensures of { IsOf board.now caller.new }
+    ensures stock { caller.new.stock ≡ caller.old.stock }
     ensures reads { Reads caller.old.account caller.new.account }
     ensures block { IfSome result (IsOpenBlock board.now.shape caller.new.account front number) }
     ensures none { result ≡ None → Whatever board.now.shape caller.new.account front (NotLive number) }
@@ -55,6 +56,7 @@ pub(crate) fn load_live(
     requires number { (0 < number) × (number ≤ front) }
     requires room { length words.old ≡ 7200 }
     ensures of { IsOf board.now caller.new }
+    ensures stock { caller.new.stock ≡ caller.old.stock }
     ensures reads { Reads caller.old.account caller.new.account }
     ensures size { length words.new ≡ 7200 }
     ensures live { IfOk result (λ r. IfSome r (λ one. IsReadLive board.now.shape caller.new.account front number one.name one.mol)) }

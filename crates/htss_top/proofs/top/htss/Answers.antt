@@ -5,7 +5,7 @@ use Rattle.command_words.specs.Tasks.{Task, command_task}
 use Rattle.command_ends.specs.Ends.{EndsAs, ShelfSeen, SinkSeen}
 use Rattle.command_ends.specs.Completeness.{Completes}
 use Rattle.command_ends.proofs.Completing.{Completes-ends}
-use Rattle.htss_main.proofs.top.htss.Goals as goal
+use Rattle.htss_top.proofs.top.htss.Goals as goal
 
 -- the task that was read is that of the words
 completes_as : (task read : Option Task) (shelf shelf_now : ShelfSeen) (out out_now : SinkSeen) (status : ℕ) → read ≡ task → EndsAs read shelf shelf_now out out_now status → Completes task shelf shelf_now out out_now status

@@ -1,8 +1,11 @@
 use Rattle.std.proofs.Common.{ℕ, ◌^◌, ◌<◌, refl, arith, sym, subst, ap, ◌∙◌, ◌+◌, ◌*◌}
 use Rattle.board_core.specs.After.{after_shows}
 use Rattle.board.specs.Seated.{with_account}
-use Rattle.pub_log.proofs.Additions.{may_log_publication, publication_added}
+use Rattle.pub_log.proofs.Additions.{may_publish, may_log_publication, publication_added}
 use Rattle.pub_log.proofs.appends.append_publication.Goals as goal
+
+pub store_shown-requires-clause-may : goal.store_shown-requires-clause-may
+store_shown-requires-clause-may c = may_publish _ _ _ _ c.block-block.ensures c.requires.held c.requires.room c.requires.staged
 
 pub store_log_word-requires-clause-may : goal.store_log_word-requires-clause-may
 store_log_word-requires-clause-may c =

@@ -17,6 +17,7 @@ use Rattle.searcher.proofs.at_front.fill.Goals as goal
 pub loop-index-init : goal.loop-index-init
 loop-index-init c = record {
   of = c.requires.fits;
+  stock = refl;
   reads = reads_same c.args.caller.now.account;
   once = once_none c.args.caller.now.account;
   size = refl;
@@ -52,6 +53,7 @@ loop-index-preserved c =
     let a = c.loop-index.caller.account in
     let b = c.load_live.new.caller.account in record {
       of = c.load_live.ensures.of;
+      stock = c.load_live.ensures.stock ∙ c.loop-index.invariant.stock;
       reads = reads_trans c.args.caller.now.account a b c.loop-index.invariant.reads c.load_live.ensures.reads;
       once = once_both c.args.caller.now.account a b c.loop-index.index 1 c.loop-index.invariant.once c.load_live.ensures.once;
       size = c.load_live.ensures.size;

@@ -8,6 +8,7 @@ use Rattle.searcher.proofs.at_front.fill.Given as goal
 abbrev pub invariant-loop-index : goal.invariant-loop-index
 invariant-loop-index l = record {
   of : IsOf l.board l.caller;
+  stock : l.caller.stock ≡ l.fn.caller.stock;
   reads : Reads l.fn.caller.account l.caller.account;
   once : LoadsOnce l.fn.caller.account l.caller.account l.index;
   size : length l.words ≡ 7200;

@@ -1,4 +1,5 @@
-use Rattle.std.proofs.Common.{◌<◌, arith}
+use Rattle.std.proofs.Common.{◌<◌, ap, ◌∙◌, arith}
+use Rattle.board.specs.Seated.{Seated}
 use Rattle.searcher.proofs.Read.{reads_head, reads_trans, of_after}
 use Rattle.searcher.proofs.Once.{loads_head, loads_next}
 use Rattle.searcher.proofs.Block.{head_known, loading_first, loading_more}
@@ -6,6 +7,7 @@ use Rattle.searcher.proofs.blocks.load_block.Goals as goal
 
 pub loop-index-init : goal.loop-index-init
 loop-index-init c = record {
+  stock = ap (λ (x : Seated). x.stock) c.load_head-head.ensures.after;
   of = of_after c.args.board.now c.args.caller.now c.load_head-head.new.caller _ c.load_head-head.ensures.after c.requires.fits;
   reads = reads_head c.args.caller.now c.load_head-head.new.caller _ _ c.load_head-head.ensures.after;
   may = c.load_head-head.ensures.may;
@@ -22,6 +24,7 @@ load_word-requires-clause-known c = c.loop-index.invariant.loading.known
 
 pub loop-index-preserved : goal.loop-index-preserved
 loop-index-preserved c = let below : c.loop-index.index < c.size_of-index-end.result = omega arith in let most = c.size_of-index-end.ensures.most in record {
+  stock = c.load_word.ensures.stock ∙ c.loop-index.invariant.stock;
   of = c.load_word.ensures.of;
   reads = reads_trans c.args.caller.now.account c.loop-index.caller.account c.load_word.new.caller.account c.loop-index.invariant.reads c.load_word.ensures.reads;
   may = c.load_word.ensures.may;
