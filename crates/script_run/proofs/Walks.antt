@@ -1,5 +1,6 @@
 -- A worker goes from job to job, and all workers beside each other.
 use Rattle.std.proofs.Common.{◌≡◌, ⊎_elim, inl, inr, ℕ, zero, suc, ◌+◌, ◌<◌, ◌≤◌, Result, Ok, Err, is_ok, OnOk, OnErr, MatchBool, Bool, true, false, List, [], ◌∷◌, ◌++◌, map, flat_map, length, drop, set, get_or, All, refl, sym, ap, subst, ◌∙◌, arith, append_assoc, append-nil}
+use lib.Dec.{ltb}
 use Rattle.std.proofs.lemmas.List.{map-append}
 use Rattle.std.proofs.lemmas.List.Elements.{All-nil, All-cons, All-head, All-tail}
 use Rattle.htss_defs.specs.declared.shape.Shape.{Shape}
@@ -255,6 +256,11 @@ module _ {W : Type 0} where
   both_halves f P ws xs us is all =
       let those : All P (map f xs ++ map f us) = subst (λ (l : List Seated). All P l) (ap (λ (l : List W). map f l) is ∙ map-append f xs us) all in
       all_apart P (map f xs) (map f us) those
+
+  -- what all have, the first has
+  pub first_has : (f : W → Seated) (F : Seated → Type 0) (ws : List W) (v : W) → All F (map f ws) → true ≡ ltb 0 (length ws) → v ≡ get_or ws 0 v → F (f v)
+  first_has f F [] v all some is = absurd (let clash : true ≡ false = some in cc)
+  first_has f F (x ∷ xs) v all some is = subst (λ (z : W). F (f z)) (sym is) (All-head F (f x) (map f xs) all)
 
   pub all_one : (f : W → Seated) (b : Place) (files : List (ℕ × List ℕ)) (budget : ℕ) (jobs : List Job) (ws : List W) (os : List Outcome) (v w : W) (o : Outcome)
       → length ws < 2 → length os ≡ length ws → v ≡ get_or ws 0 v → DidOwn b files budget jobs (f v) (f w) o

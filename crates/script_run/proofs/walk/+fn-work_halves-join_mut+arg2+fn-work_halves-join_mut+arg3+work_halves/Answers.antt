@@ -1,8 +1,11 @@
 use Rattle.std.proofs.Common.{rules}
 use Rattle.script_run.specs.Walking.{IsWorker}
 use Rattle.script_run.proofs.Passing.{passed_halves, passed_one}
-use Rattle.script_run.proofs.Walks.{all_halves, all_one, both_halves}
+use Rattle.script_run.proofs.Walks.{all_halves, all_one, both_halves, first_has}
 use Rattle.script_run.proofs.walk.+fn-work_halves-join_mut+arg2+fn-work_halves-join_mut+arg3+work_halves.Goals as goal
+
+pub work-requires-clause-worker : goal.work-requires-clause-worker
+work-requires-clause-worker g t c = first_has (λ w. w.caller) (IsWorker c.args.board.now) c.args.workers.now c.in-Some-Some.worker.now c.requires.workers c.in-Some-Some.ensures.item.0 c.in-Some-Some.ensures.item.1
 
 pub returns-in-Some-Some-clause-did : goal.returns-in-Some-Some-clause-did
 returns-in-Some-Some-clause-did g t c = all_one (λ w. w.caller) _ _ _ _ _ _ _ _ _ c.if-workers-lt2.true c.requires.count c.in-Some-Some.ensures.item.1 c.work.ensures.did
