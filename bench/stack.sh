@@ -24,7 +24,7 @@ cd "$folder" || exit 1
 runs_in() {
   local kilobytes=$1
   shift
-  (ulimit -s "$kilobytes" && "$program" "$@" >/dev/null 2>&1)
+  { (ulimit -s "$kilobytes" && exec "$program" "$@" >/dev/null 2>&1); } 2>/dev/null
 }
 
 failed=0

@@ -28,7 +28,8 @@ pub struct Case<'a> {
     pub text: &'a str,
 }
 
-fn words(alloc: Global, list: &[&str]) -> Result<Vec<String>, Fail> {
+/// The words of a command line.
+pub fn words(alloc: Global, list: &[&str]) -> Result<Vec<String>, Fail> {
     let mut words = Vec::new(alloc);
     for word in list {
         words.push(String::from_str(alloc, word)?)?;
@@ -58,7 +59,8 @@ fn add(rt: &impl Abort, files: &mut Vec<NamedBytes>, file: NamedBytes) -> Result
     Ok(())
 }
 
-fn shelf(
+/// A shelf of these files, of which one call fails, or none.
+pub fn shelf(
     rt: &impl Abort,
     alloc: Global,
     list: &[Given<'_>],
