@@ -1,7 +1,7 @@
 #!/usr/bin/env bash
 # What a second loader brings: the same records in two files, loaded by a script of two lines, with one loader and with two, and how
 # fast one loader loads them. Best of five runs each, the same files in one run. The board is as large with one loader as with two, and
-# as small as the records allow, so that making it counts little. Where strace is there, loading (parsing, staging, publishing) is timed by
+# as small as the records need, so that making it counts little. Where strace is there, loading (parsing, staging, publishing) is timed by
 # itself: from the start of the first loader's thread to the end of the last one's. The rest of a run is one thread's: the board is made, the
 # files are read, the report and its log are written.
 # Usage: bench/loaders.sh [RECORDS]
@@ -18,7 +18,8 @@ cd "$folder" || exit 1
 printf 'load first.sdf\nload second.sdf\n' >load.txt
 printf '' >nothing.txt
 room=$((records * 200))
-limits="--pages 16 --log $records --searchers 1"
+pages=$((records * 12 + 1000))
+limits="--pages $pages --log $records --searchers 1"
 alone="$limits --loaders 1 --room $room"
 both="$limits --loaders 2 --room $((room / 2))"
 

@@ -2,11 +2,13 @@
 //! status of a process that does it.
 #![tactic(auto)]
 
-mod status;
 #[cfg(test)]
 mod run_tests;
+mod status;
 mod top;
+#[cfg(test)]
+mod tree_tests;
 
-pub use status::exit;
 pub use run_command::Ended;
+pub use status::exit;
 pub use top::htss;

@@ -22,7 +22,7 @@ const ETHER: &str =
 const CO: &str =
     "co\n\n\n  2  1  0  0  0  0  0  0  0  0999 V2000\n    0.0000    0.0000    0.0000 C   0  0\n    0.0000    0.0000    0.0000 O   0  0\n  1  2  1  0\nM  END\n";
 
-const CARBON: &str =
+pub(crate) const CARBON: &str =
     "c\n\n\n  1  0  0  0  0  0  0  0  0  0999 V2000\n    0.0000    0.0000    0.0000 C   0  0\nM  END\n$$$$\n";
 
 const RING: &str =
@@ -50,16 +50,16 @@ const STORED_WORDS: &[&str] = &[
     "100",
 ];
 
-const HEADER: &str =
+pub(crate) const HEADER: &str =
     "htss 1 loaders 2 searchers 2 pages 1048576 room 4194304 log 1048576 chain 65535 budget 10000000000\n";
 
 const LOADED: &str = "load 1 a.sdf\npublished 1 ethanol\npublished 2 ether\nloaded 2\n";
 
 // A file, whose text is given in parts.
 #[derive(Clone, Copy, Drop)]
-struct Given<'a> {
-    name: &'a str,
-    parts: &'a [&'a str],
+pub(crate) struct Given<'a> {
+    pub(crate) name: &'a str,
+    pub(crate) parts: &'a [&'a str],
 }
 
 const FILES: [Given<'static>; 6] = [
@@ -106,7 +106,7 @@ fn joined(alloc: Global, parts: &[&str]) -> Result<Vec<u8>, Fail> {
     Ok(bytes)
 }
 
-fn file(alloc: Global, given: &Given<'_>) -> Result<NamedBytes, Fail> {
+pub(crate) fn file(alloc: Global, given: &Given<'_>) -> Result<NamedBytes, Fail> {
     Ok(NamedBytes {
         name: Text::new(String::from_str(alloc, given.name)?),
         bytes: Bytes::new(joined(alloc, given.parts)?),
@@ -114,7 +114,11 @@ fn file(alloc: Global, given: &Given<'_>) -> Result<NamedBytes, Fail> {
 }
 
 // Adds a file, which has a name of its own.
-fn add(rt: &impl Abort, files: &mut Vec<NamedBytes>, file: NamedBytes) -> Result<(), Fail>
+pub(crate) fn add(
+    rt: &impl Abort,
+    files: &mut Vec<NamedBytes>,
+    file: NamedBytes,
+) -> Result<(), Fail>
     requires { HaveOwnNames files.old.items }
     ensures { OnOk result (HaveOwnNames files.new.items) }
 {
@@ -125,7 +129,11 @@ fn add(rt: &impl Abort, files: &mut Vec<NamedBytes>, file: NamedBytes) -> Result
 }
 
 // The files of the cases, with the script under the name s.txt.
-fn files_with(rt: &impl Abort, alloc: Global, script: &str) -> Result<Vec<NamedBytes>, Fail>
+pub(crate) fn files_with(
+    rt: &impl Abort,
+    alloc: Global,
+    script: &str,
+) -> Result<Vec<NamedBytes>, Fail>
     ensures { IfOk result (λ files. HaveOwnNames files.items) }
 {
     let mut files = Vec::new(alloc);
@@ -142,15 +150,15 @@ fn files_with(rt: &impl Abort, alloc: Global, script: &str) -> Result<Vec<NamedB
 
 // What a command line must answer.
 #[derive(Clone, Copy, Drop)]
-struct Answer {
-    words: &'static [&'static str],
+pub(crate) struct Answer {
+    pub(crate) words: &'static [&'static str],
     // the call of the shelf that fails, 0 for none
-    failing: u64,
+    pub(crate) failing: u64,
     // how many bytes the sink takes
-    room: usize,
-    status: u8,
+    pub(crate) room: usize,
+    pub(crate) status: u8,
     // how many events the board has that is answered
-    events: Option<usize>,
+    pub(crate) events: Option<usize>,
 }
 
 // How many events the board has, if there is one.
@@ -177,7 +185,7 @@ fn done<R: Threads + Wait + Sync>(
     Ok((ended.status, events_of(alloc, &ended)?))
 }
 
-fn is_answered<R: Threads + Wait + Sync + Abort>(
+pub(crate) fn is_answered<R: Threads + Wait + Sync + Abort>(
     rt: &R,
     alloc: Global,
     files: Vec<NamedBytes>,
@@ -450,7 +458,7 @@ const MADE_REPORT: [Lines; 8] = [
 ];
 
 // Appends the text, with the number in the place of each #.
-fn push_numbered(report: &mut String, text: &str, number: &str) -> Result<(), Fail> {
+pub(crate) fn push_numbered(report: &mut String, text: &str, number: &str) -> Result<(), Fail> {
     for part in text.chars() {
         if part == '#' {
             report.push_str(number)?;
