@@ -29,7 +29,7 @@ runs_in() {
 
 failed=0
 for words in 'find made.sdf co.mol' 'check made.sdf' 'codes co.mol' 'make 20 7' 'make 20 7 --summary' \
-  'run script.txt --loaders 16 --searchers 16 --pages 16 --room 100000 --log 10000'; do
+  'run script.txt --loaders 16 --searchers 16 --pages 20000 --room 100000 --log 10000'; do
   # the words of a command stand apart
   # shellcheck disable=SC2086
   if runs_in "$most" $words; then state=runs; else state='DOES NOT RUN'; failed=1; fi
