@@ -89,6 +89,7 @@ pub mod ClaimCode
 pub mod LinkNext
 pub mod ClaimWord
 pub mod LoadOwnCode
+pub mod LoadMet
 pub mod SplitNote
 pub mod SplitCaller
 pub mod JoinNote

@@ -45,3 +45,4 @@ pub mod Loaded
 pub mod Answers
 pub mod Holds
 pub mod Steps
+pub mod Met
