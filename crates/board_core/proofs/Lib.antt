@@ -44,6 +44,9 @@ pub mod TreeFrame
 pub mod ChainFrame
 pub mod PageLoads
 pub mod Linked
+pub mod Split
+pub mod Places
+pub mod Planned
 pub mod LoadSealed
 pub mod Stepped
 pub mod MarkWord

@@ -150,7 +150,7 @@ module _ (w u : ℕ → ℕ → ℕ) (s z : Sheet) (m v : ℕ → Place) (c : �
 
 -- pages of the tree stay in it, with their words other than 0
 pub keeps_linked : (w u : ℕ → ℕ → ℕ) (s z : Sheet) (q i n : ℕ) → ((p : ℕ) → IsLinked s p → IsLinked z p) → w q i ≡ 0 → IsPut w u q i n → KeepsPages w u s z
-keeps_linked w u s z q i n more zero_word e = record { linked = more; words = λ p j l some_n. e.others p j (other_word w q i zero_word p j (w p j) some_n refl) }
+keeps_linked w u s z q i n more zero_word e = record { linked = λ p l. inl (more p l); words = λ p j l some_n. inl (e.others p j (other_word w q i zero_word p j (w p j) some_n refl)) }
 
 -- ---- rows that are placed
 
