@@ -90,6 +90,11 @@ pub mod LinkLeaf
 pub mod ClaimEntry
 pub mod ClaimCode
 pub mod LinkNext
+pub mod LetGo
+pub mod RowCodes
+pub mod OwnWords
+pub mod SplitTree
+pub mod ExchangeLeaf
 pub mod ClaimWord
 pub mod LoadOwnCode
 pub mod SplitNote

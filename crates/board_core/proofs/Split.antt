@@ -45,13 +45,13 @@ module _ (w u : ℕ → ℕ → ℕ) (s z : Sheet) (m v : ℕ → Place) (codes 
   from_link : IsFrom s m q (Branch k) L
   from_link = subst (λ (x : ℕ). IsFrom s m q (Branch k) x) c.there (t.leads q (Branch k) c.inner (c.kind, c.room) (λ n. some_leaf (sym c.there ∙ n)))
 
-  leaf_place : (w q (2 + 2 * k) ≢ 0) × ((m L).path ≡ (m q).path ++ w q (2 + 2 * k) ∷ []) × ((m L).rank ≡ 0)
+  pub leaf_place : (w q (2 + 2 * k) ≢ 0) × ((m L).path ≡ (m q).path ++ w q (2 + 2 * k) ∷ []) × ((m L).rank ≡ 0)
   leaf_place = branch_path (w q) (m q) (m L).way (m L) k from_link.by (subst (λ (x : ℕ). Follows (w x) (m x) (m L).way (m L)) from_link.from (t.named L c.leaf from_link.below).follows)
 
   low_depth : length (m L).path < chained
   low_depth = is_low (length (m L).path) c.low
 
-  no_more : w L 1 ≡ 0
+  pub no_more : w L 1 ≡ 0
   no_more = (t.pages L c.leaf).low c.old low_depth
 
   not_linked : (p : ℕ) → New p → IsLinked s p → ⊥
