@@ -245,6 +245,14 @@ after_linked a n rows = record a { pool = record a.pool { own = let_go n a.pool.
 abbrev pub after_inner : Account → ℕ → Account
 after_inner a n = record a { pool = record a.pool { own = let_go n a.pool.own } }
 
+-- own pages are in the tree in place of a leaf, which is unlinked and has no stamp yet
+abbrev pub let_go_all : List ℕ → List Own → List Own
+let_go_all [] os = os
+let_go_all (n ∷ ns) os = let_go n (let_go_all ns os)
+
+abbrev pub after_split : Account → List ℕ → ℕ → Account
+after_split a numbers leaf = record a { pool = record a.pool { own = let_go_all numbers a.pool.own; parted = record { page = leaf; stamp = 0 } ∷ a.pool.parted } }
+
 -- an entry is the caller's row
 abbrev pub after_entry : Account → ℕ → Row → Account
 after_entry a j r = record a { tree = record a.tree { reached = set a.tree.reached j (with_slot (entry_word r) (visited a.tree.reached j)); placed = a.tree.placed ++ r ∷ [] } }
