@@ -141,10 +141,10 @@ pub record MayTakePage (k : Shape) (a : Account) (loader p x : ℕ) : Type 0 whe
   pub below : x ≢ 0 → x ≤ a.pool.low
   pub scanned : x ≢ 0 → k.loaders + k.searchers ≤ a.pool.passed
 
--- a page may be retired with this stamp: it is unlinked and has it, or it is the caller's own, and the epoch was loaded
+-- a page may be retired with this stamp: it is unlinked and has it
 pub record MayRetire (k : Shape) (a : Account) (p n : ℕ) : Type 0 where
   pub inside : IsPage k p
-  pub kind : HasParted a p n ⊎ (HasOwn a p × HasEpoch a n)
+  pub parted : HasParted a p n
 
 -- a code of an own row may be loaded
 pub record MayLoadOwn (k : Shape) (a : Account) (row : Row) (head code : ℕ) : Type 0 where
