@@ -3,6 +3,7 @@ pub mod NextWord
 pub mod PageWords
 pub mod Stocks
 pub mod TreeWords
+pub mod Exchanged
 pub mod News
 pub mod Gathers
 pub mod Endings
