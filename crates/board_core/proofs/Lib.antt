@@ -97,6 +97,7 @@ pub mod SplitTree
 pub mod ExchangeLeaf
 pub mod ClaimWord
 pub mod LoadOwnCode
+pub mod LoadMet
 pub mod SplitNote
 pub mod SplitCaller
 pub mod JoinNote
