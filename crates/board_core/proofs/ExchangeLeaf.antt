@@ -31,7 +31,7 @@ use Rattle.board_core.specs.Loaded.{IsPage, page_word}
 use Rattle.board_core.specs.Holds.{Rule, Holds}
 use Rattle.board_core.specs.After.{visited, let_go_all, after_split, after_link}
 use Rattle.board_core.specs.FactRule.{BlocksStand}
-use Rattle.board_core.specs.Steps.{Mine, MayLoadLink, MayExchangeLeaf, ExchangesLeaf}
+use Rattle.board_core.specs.Steps.{Mine, MayExchangeLeaf, Exchange, ExchangesLeaf}
 use Rattle.board_core.proofs.Lists.{inside, set_twice}
 use Rattle.board_core.proofs.Everyone.{mine, at_most}
 use Rattle.board_core.proofs.PoolTree.{pool_links, one_parted}
@@ -215,10 +215,14 @@ module _ (k : Shape) (p : Parts) (h : List Event) (vs : List View) (id j i c l :
 
 -- ---- as the table asks
 
+-- the leaf is reached as l
+abbrev exchange : Mine → ℕ → ℕ → ℕ → ℕ → List ℕ → ℕ → Exchange
+exchange m j i c l numbers first = record { inner = j; index = i; code = c; leaf = (visited m.0.me.tree.reached l).page; numbers = numbers; first = first }
+
 pub exchange_allowed : (k : Shape) (slots id j i c l at_word : ℕ) (numbers : List ℕ) (first : ℕ) (m : Mine) → at_word ≡ page_word k (visited m.0.me.tree.reached j).page (3 + 2 * i) → i < 7 → 2 ≤ k.chain → m.0.shape ≡ k
     → MayExchangeLeaf k m.0.me j i c l numbers first
     → Allows (Holds k) slots id m at_word (λ f. either (f == (visited m.0.me.tree.reached l).page) first f)
-    (ExchangesLeaf j i c (visited m.0.me.tree.reached l).page numbers first (step slots at_word (visited m.0.me.tree.reached l).page first none) m)
+    (ExchangesLeaf (exchange m j i c l numbers first) (step slots at_word (visited m.0.me.tree.reached l).page first none) m)
 exchange_allowed k slots id j i c l at_word numbers first m is small chain shape may s h _ at within =
     let n : ℕ = get_or s.words at_word 0 in
     let p : Parts = parts_of k s.words in

@@ -33,9 +33,6 @@ pub each_without : {A : Type 0} (F : A → Type 0) (page : A → ℕ) (p : ℕ) 
 each_without F page p [] all = all
 each_without F page p (x ∷ xs) all = each_kept_or F x (without page p xs) (eqb p (page x)) (all zero x refl) (each_without F page p xs (λ j. all (suc j)))
 
-pub own_retired : (pages : ℕ → ℕ → ℕ) (vs : List View) (id p : ℕ) (v : View) → OwnRule pages vs → get_elem? vs id ≡ some v → OwnRule pages (set vs id (with_me v (after_retire v.me p)))
-own_retired pages vs id p v r at = changed (OwnFit pages) vs id v (after_retire v.me p) at (each_without (OwnFits pages) (λ o. o.page) p v.me.pool.own (mine (OwnFit pages) vs id v at r)) r
-
 -- ---- splits, joins and the opening
 
 pub own_note : (pages : ℕ → ℕ → ℕ) (vs : List View) (shape : Shape) (front : ℕ) → OwnRule pages vs → OwnRule pages (vs ++ view shape (account Note front) ∷ [])
