@@ -262,8 +262,9 @@ pub(crate) struct LoadSlot<R> {
 
 impl<R: Reaches> Play<(), View> for LoadSlot<R> {
     ghost use Rattle.board_core.specs.Steps.{LoadsSlot};
+    ghost use Rattle.board_core.specs.Boards.{OnBoard};
 
-    ghost then = { LoadsSlot R.number };
+    ghost then = { OnBoard (LoadsSlot R.number) };
 }
 
 pub(crate) struct LoadLink<R> {
@@ -272,8 +273,9 @@ pub(crate) struct LoadLink<R> {
 
 impl<R: Reaches> Play<(), View> for LoadLink<R> {
     ghost use Rattle.board_core.specs.Steps.{LoadsLink};
+    ghost use Rattle.board_core.specs.Boards.{OnBoard};
 
-    ghost then = { LoadsLink R.number R.index R.code };
+    ghost then = { OnBoard (LoadsLink R.number R.index R.code) };
 }
 
 pub(crate) struct LoadMore<R> {
@@ -282,8 +284,9 @@ pub(crate) struct LoadMore<R> {
 
 impl<R: Reaches> Play<(), View> for LoadMore<R> {
     ghost use Rattle.board_core.specs.Steps.{LoadsMore};
+    ghost use Rattle.board_core.specs.Boards.{OnBoard};
 
-    ghost then = { LoadsMore R.number };
+    ghost then = { OnBoard (LoadsMore R.number) };
 }
 
 pub(crate) struct ClaimWord<C> {
