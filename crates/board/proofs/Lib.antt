@@ -3,6 +3,7 @@ pub mod NextWord
 pub mod PageWords
 pub mod Stocks
 pub mod TreeWords
+mod MetWords
 pub mod News
 pub mod Gathers
 pub mod Endings

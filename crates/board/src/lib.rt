@@ -4,6 +4,7 @@
 mod blocks;
 mod close;
 mod epochs;
+mod met;
 mod notes;
 mod open;
 mod pages;
@@ -22,6 +23,7 @@ pub use epochs::{
     LAST_EPOCH, advance_epoch, clear_announcement, load_announcement, load_epoch,
     store_announcement,
 };
+pub use met::{load_met_code, load_met_entry, load_met_head};
 pub use notes::{hear, note};
 pub use open::{OpenError, open_board};
 pub use pages::{exchange_state, load_state, store_retired};

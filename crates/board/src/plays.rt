@@ -1,5 +1,6 @@
 // What each kind of step tells, and how seats are split and joined.
 use crate::blocks::Coded;
+use crate::met::Met;
 use crate::pages::Paged;
 use crate::regions::{Completed, Ended, Marked};
 use crate::steps::{Answers, Shown};
@@ -300,6 +301,36 @@ impl Play<(), View> for LoadOwnHead {
     ghost use Rattle.board_core.specs.Steps.{LoadsOwnHead};
 
     ghost then = { λ s m found n. LoadsOwnHead s.word s m found n };
+}
+
+pub(crate) struct LoadEntry<E> {
+    entry: PhantomData<E>,
+}
+
+impl<E: Met> Play<(), View> for LoadEntry<E> {
+    ghost use Rattle.board_core.specs.Met.{LoadsEntry};
+
+    ghost then = { LoadsEntry E.number E.index };
+}
+
+pub(crate) struct LoadMetHead<E> {
+    entry: PhantomData<E>,
+}
+
+impl<E: Met> Play<(), View> for LoadMetHead<E> {
+    ghost use Rattle.board_core.specs.Met.{LoadsMetHead};
+
+    ghost then = { LoadsMetHead E.entry };
+}
+
+pub(crate) struct LoadMetCode<E> {
+    entry: PhantomData<E>,
+}
+
+impl<E: Met> Play<(), View> for LoadMetCode<E> {
+    ghost use Rattle.board_core.specs.Met.{LoadsMetCode};
+
+    ghost then = { LoadsMetCode E.entry E.code };
 }
 
 /// A note has seen what the caller has.

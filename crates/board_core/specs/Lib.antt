@@ -47,3 +47,4 @@ pub mod Plan
 pub mod Answers
 pub mod Holds
 pub mod Steps
+pub mod Met

@@ -229,6 +229,7 @@ pub record MayExchangeLeaf (k : Shape) (a : Account) (j i c l : ℕ) (numbers : 
   pub leaf : (visited a.tree.reached l).leaf ≡ true
   pub path : (visited a.tree.reached l).path ≡ (visited a.tree.reached j).path ++ c ∷ []
   pub rank : (visited a.tree.reached l).rank ≡ 0
+  pub low : length (visited a.tree.reached l).path < 5
   pub whole : Each (IsWhole a) numbers
   pub places : ℕ → Place
   pub plan : (codes : ℕ → List ℕ) → MayHaveCodes a (visited a.tree.reached l) codes
