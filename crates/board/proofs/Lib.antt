@@ -8,4 +8,5 @@ pub mod News
 pub mod Gathers
 pub mod Endings
 pub mod Closings
+pub mod ClosedPages
 pub mod StagedStays
