@@ -47,3 +47,5 @@ pub mod Plan
 pub mod Answers
 pub mod Holds
 pub mod Steps
+pub mod Met
+pub mod Boards

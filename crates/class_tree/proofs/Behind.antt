@@ -25,7 +25,7 @@ use Rattle.class_tree.specs.Refusing.{Stops}
 use Rattle.class_tree.specs.Stocked.{IsStockedBut, IsReady}
 use Rattle.class_tree.specs.Walking.{here, Rest, rest_of, AreHigh, IsFresh, IsAt, IsTarget, HasCode, IsDown, IsAtLeaf, Goes}
 use Rattle.class_tree.proofs.Pages.{target_kept, within}
-use Rattle.class_tree.proofs.Grown.{Grown, equal_shown, same_high, grown_link, none_link, grown_fresh, grown_high, grown_at, grown_goes, shown_goes, rest_link, goes_on}
+use Rattle.class_tree.proofs.Grown.{Grown, equal_shown, same_high, grown_link, none_link, grown_fresh, grown_high, grown_at, grown_goes, shown_goes, rest_link, lists_link, goes_on}
 use Rattle.class_tree.proofs.Chain.{depth_is, stored_header, but_same}
 use Rattle.class_tree.proofs.Searching.{stops_on}
 use Rattle.class_tree.proofs.Entering.{to_place, goes_places}
@@ -140,7 +140,7 @@ led_read k c d x next depth n t h (leaf, e) some_n inside is =
     let a : Account = c.account in
     let code : ℕ = get_or t.codes depth 0 in
     let less = within k a x.stop (take depth t.codes) h.rank h.known false h.at in record {
-      goes = grown_goes 0 c d (after_link a x.stop.number x.index code n leaf) (led (here a x.stop) x.index code n leaf) (omega arith) e (rest_link a x.stop.number x.index code n leaf) (grown_link a x.stop x.index code n leaf less some_n);
+      goes = grown_goes 0 c d (after_link a x.stop.number x.index code n leaf) (led (here a x.stop) x.index code n leaf) (omega arith) e (rest_link a x.stop.number x.index code n leaf) (lists_link a x.stop.number x.index code n leaf) (grown_link a x.stop x.index code n leaf less some_n);
       number = ap (λ (x : Stop). x.number) is;
       behind = is_behind k a d.account x next depth n leaf t h (ap (λ (y : Seated). y.account) e) some_n inside is;
     }
@@ -156,7 +156,7 @@ at_link k c d e x depth word page header first t h (leaf, load) none ready =
     let code : ℕ = get_or t.codes depth 0 in
     let less = within k a x.stop (take depth t.codes) h.rank h.known false h.at in
     let zero_load : d ≡ with_account c (after_link a x.stop.number x.index code 0 leaf) = load ∙ ap (λ (n : ℕ). with_account c (after_link a x.stop.number x.index code n leaf)) none in record {
-      goes = goes_on 0 (length d.account.tree.reached) c d e (omega arith) (shown_goes 0 c d (after_link a x.stop.number x.index code 0 leaf) zero_load refl (none_link a x.stop x.index code leaf less)) ready.goes;
+      goes = goes_on 0 (length d.account.tree.reached) c d e (omega arith) (shown_goes 0 c d (after_link a x.stop.number x.index code 0 leaf) zero_load refl refl (none_link a x.stop x.index code leaf less)) ready.goes;
       code = code_same k d.account e.account x depth t ready.goes.rest ready.reached (subst (λ (y : Seated). HasCode k y.account x depth t) (sym zero_load) (code_zero k a x depth x.index code leaf t h));
     }
 
@@ -192,7 +192,7 @@ link_lost k c d e f g x next depth word found page header t h load none ready li
     let now = led_read k e f x next depth found t end.code link some_n inside is in
     let goes_f = goes_on 0 0 c e f (omega arith) end.goes now.goes in
     subst (λ (y : Seated). IsLed k c y x.stop next depth t) (sym keep) record {
-      goes = record { table = goes_f.table; shape = goes_f.shape; rest = goes_f.rest; longer = goes_f.longer; stays = goes_f.stays };
+      goes = record { table = goes_f.table; shape = goes_f.shape; rest = goes_f.rest; grows = goes_f.grows; longer = goes_f.longer; stays = goes_f.stays };
       number = now.number;
       behind = now.behind;
     }

@@ -9,3 +9,4 @@ mod Entering
 mod Leaves
 mod Behind
 mod Begun
+mod Loadings

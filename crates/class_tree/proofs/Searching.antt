@@ -17,7 +17,7 @@ use Rattle.board_core.specs.Histories.{history_of}
 use Rattle.board_core.specs.Steps.{AreTrue}
 use Rattle.board_core.proofs.Lists.{each_none, each_cons}
 use Rattle.board_core.specs.ClassTree.{page_room}
-use Rattle.board_core.specs.After.{visited, noted, after_answer}
+use Rattle.board_core.specs.After.{visited, noted, after_answer, after_more, after_link}
 use Rattle.board_core.proofs.PageLoads.{at_visit}
 use Rattle.board.specs.Seated.{Place, Seated, IsOf, IsLoader, number_in, with_account}
 use Rattle.class_tree.specs.declared.insert.InsertError.{InsertError}
@@ -28,19 +28,21 @@ use Rattle.class_tree.specs.Inserting.{IsStocked, IsNowhere, WasFull, HasFullCha
 use Rattle.class_tree.specs.Refusing.{Answers, WasRefused, WasFullChain, Stops}
 use Rattle.class_tree.specs.Walking.{here, Rest, rest_of, Shown, shown_of, IsAt, IsSeeking, HasCode, IsDown, Goes, Reads, IsNext, IsFound, WasFullAt, AreFull}
 use Rattle.class_tree.proofs.Finding.{absent, below_code}
-use Rattle.class_tree.proofs.Grown.{goes_on, goes_same}
+use Rattle.class_tree.proofs.Grown.{goes_on, goes_same, rest_more, rest_link, lists_more, lists_link}
 use Rattle.class_tree.proofs.Chain.{depth_is}
+use Rattle.class_tree.proofs.Loadings.{lists_of, grows_on, grows_equal}
 
 -- ---- from one part of a walk to the next
 
 pub goes_less : (n m : ℕ) (c d : Seated) → n ≤ m → Goes m c d → Goes n c d
-goes_less n m c d most g = record { table = g.table; shape = g.shape; rest = g.rest; longer = g.longer; stays = λ j less. g.stays j (omega arith) }
+goes_less n m c d most g = record { table = g.table; shape = g.shape; rest = g.rest; grows = g.grows; longer = g.longer; stays = λ j less. g.stays j (omega arith) }
 
 pub reads_goes : (n : ℕ) (c d : Seated) → Reads c d n → Goes n c d
 reads_goes n c d r = record {
   table = ap (λ (x : Seated). x.table) r.only;
   shape = ap (λ (x : Seated). x.shape) r.only;
   rest = ap (λ (x : Seated). rest_of x.account) r.only;
+  grows = grows_equal c.account d.account (ap (λ (x : Seated). lists_of x.account) r.only);
   longer = (let size = r.size in omega arith);
   stays = λ j less. ap shown_of (r.others j (λ e. omega arith));
 }
@@ -61,7 +63,36 @@ answers_on n c d e x g a = record {
   table = a.table ∙ g.table;
   shape = a.shape ∙ g.shape;
   loads = a.loads;
+  grows = grows_on c.account d.account e.account g.grows a.grows;
   rest = a.rest ∙ ap (λ (r : Rest). record r { entries = r.entries ++ noted a.loads (x ∷ []) }) g.rest;
+}
+
+-- nothing that a walk keeps was changed before
+pub answers_after : (c d e : Seated) (x : Entry) → d.table ≡ c.table → d.shape ≡ c.shape → rest_of d.account ≡ rest_of c.account → lists_of d.account ≡ lists_of c.account → Answers d e x → Answers c e x
+answers_after c d e x table shape rest lists a = record {
+  table = a.table ∙ table;
+  shape = a.shape ∙ shape;
+  loads = a.loads;
+  grows = grows_on c.account d.account e.account (grows_equal c.account d.account lists) a.grows;
+  rest = a.rest ∙ ap (λ (r : Rest). record r { entries = r.entries ++ noted a.loads (x ∷ []) }) rest;
+}
+
+pub more_refused : (k : Shape) (c d e : Seated) (j word : ℕ) → d ≡ with_account c (after_more c.account j word) → WasRefused k d e → WasRefused k c e
+more_refused k c d e j word load r = record {
+  answers = answers_after c d e PageWanted (ap (λ (x : Seated). x.table) load) (ap (λ (x : Seated). x.shape) load) (ap (λ (x : Seated). rest_of x.account) load ∙ rest_more c.account j word) (ap (λ (x : Seated). lists_of x.account) load ∙ lists_more c.account j word) r.answers;
+  before = r.before;
+  empty = r.empty;
+  refused = r.refused;
+  none = r.none;
+}
+
+pub link_refused : (k : Shape) (c d e : Seated) (j i code word : ℕ) → (leaf : Bool) × (d ≡ with_account c (after_link c.account j i code word leaf)) → WasRefused k d e → WasRefused k c e
+link_refused k c d e j i code word (leaf, load) r = record {
+  answers = answers_after c d e PageWanted (ap (λ (x : Seated). x.table) load) (ap (λ (x : Seated). x.shape) load) (ap (λ (x : Seated). rest_of x.account) load ∙ rest_link c.account j i code word leaf) (ap (λ (x : Seated). lists_of x.account) load ∙ lists_link c.account j i code word leaf) r.answers;
+  before = r.before;
+  empty = r.empty;
+  refused = r.refused;
+  none = r.none;
 }
 
 pub refused_on : (k : Shape) (n : ℕ) (c d e : Seated) → Goes n c d → WasRefused k d e → WasRefused k c e
@@ -159,6 +190,7 @@ chain_refused k n c d e row g full after = chain_on k n c d e row k.chain g reco
     table = ap (λ (x : Seated). x.table) after;
     shape = ap (λ (x : Seated). x.shape) after;
     loads = d.account.loads;
+    grows = grows_equal d.account e.account (ap (λ (x : Seated). lists_of x.account) after);
     rest = ap (λ (x : Seated). rest_of x.account) after;
   };
   all = refl;

@@ -21,6 +21,7 @@ use Rattle.class_tree.specs.Walking.{Rest, rest_of, shown_of}
 use Rattle.class_tree.specs.Stocked.{IsStockedBut, HasMade, IsReady}
 use Rattle.class_tree.specs.Refusing.{WasRefused}
 use Rattle.class_tree.proofs.Making.{made_all}
+use Rattle.class_tree.proofs.Loadings.{lists_of, grows_on, grows_equal, given_grows, refused_grows}
 
 -- all that the pool leaves alone: its own numbers and own pages are no part of it
 abbrev Walk : Type 0
@@ -115,6 +116,7 @@ is_ready k c d e page header first s inside g m =
         table = ap (λ (x : Seated). x.table) m.after ∙ taken.table;
         shape = ap (λ (x : Seated). x.shape) m.after ∙ taken.shape;
         rest = ap (λ (x : Walk). x.0) walk;
+        grows = grows_on c.account d.account e.account (given_grows k c d page g) (grows_equal d.account e.account (ap (λ (x : Seated). lists_of x.account) m.after));
         longer = (let same = ap length reached in omega arith);
         stays = λ j _. ap (λ (l : List Reached). shown_of (visited l j)) reached;
       };
@@ -140,6 +142,7 @@ was_refused k c d empty r =
         table = ap (λ (x : Seated). x.table) r.after ∙ (ap (λ (x : Seated). x.table) r.looked.after ∙ place.0);
         shape = ap (λ (x : Seated). x.shape) r.after ∙ (ap (λ (x : Seated). x.shape) r.looked.after ∙ place.1);
         loads = r.last.account.loads;
+        grows = refused_grows k c d r;
         rest = ap (λ (x : Seated). rest_of x.account) r.after ∙ ap (λ (x : Walk). record x.0 { entries = x.0.entries ++ noted r.last.account.loads (NoPage ∷ []) }) walk;
       };
       before = c;

@@ -1,9 +1,12 @@
 -- What the insertion of a row does to its caller (this project's own).
 use Rattle.std.specs.Prelude.{◌≡◌, ℕ, ◌<◌, ◌≤◌, Bool, false, List, [], ◌∷◌, ◌++◌, length}
+use mathlib.Core.Option.{some}
+use lib.ListN.{get_elem?}
 use Rattle.htss_defs.specs.declared.shape.Shape.{Shape}
 use Rattle.board_core.specs.declared.account.Account.{Account}
 use Rattle.board_core.specs.declared.entry.Entry.{Entry}
 use Rattle.board_core.specs.declared.entry.Entry.TheVariants.{NoPage as PageWanted, ChainFull as ChainWasFull}
+use Rattle.board_core.specs.declared.loads.CodeLoad.{CodeLoad}
 use Rattle.board_core.specs.declared.loads.Loads.{Loads}
 use Rattle.board_core.specs.declared.room.Row.{Row}
 use Rattle.board_core.specs.declared.tree.Reached.{Reached}
@@ -16,7 +19,7 @@ use Rattle.board_core.specs.Rows.{own_codes}
 use Rattle.board_core.specs.After.{noted, after_answer, after_unpin}
 use Rattle.board.specs.Seated.{Seated, with_account}
 use Rattle.page_pool.specs.Taking.{IsRefused}
-use Rattle.class_tree.specs.Loading.{code_loads}
+use Rattle.class_tree.specs.Loading.{code_loads, LoadsOn}
 use Rattle.class_tree.specs.declared.insert.InsertError.{InsertError}
 use Rattle.class_tree.specs.declared.insert.InsertError.TheVariants.{NoPage, ChainFull}
 
@@ -26,20 +29,20 @@ pub record IsStocked (c : Seated) : Type 0 where
   pub size : length c.stock ≤ 32
   pub clean : c.account.pool.parted ≡ []
 
--- what an insertion leaves, whatever it answers: the row is begun, its five codes were loaded, and the caller is unpinned. The log,
--- the region, and what was loaded of the log and of blocks are as they were
+-- what an insertion leaves, whatever it answers: the row is begun, its five codes were loaded first, and the caller is unpinned. The
+-- log, the region, and what was loaded of the log, of marks, names, atoms and bonds are as they were. All else that was loaded stays
 pub record HasBegun (k : Shape) (c d : Seated) (row : Row) : Type 0 where
   pub who : d.account.who ≡ c.account.who
   pub unpinned : d.account.pool.announced ≡ 0
   pub begun : d.account.tree.begun ≡ c.account.tree.begun ++ row ∷ []
-  pub codes : d.account.loads.codes ≡ c.account.loads.codes ++ code_loads row 0 (own_codes k c.account row)
+  pub codes : (j : ℕ) (x : CodeLoad) → get_elem? (c.account.loads.codes ++ code_loads row 0 (own_codes k c.account row)) j ≡ some x → get_elem? d.account.loads.codes j ≡ some x
   pub log : d.account.log ≡ c.account.log
   pub room : d.account.room ≡ c.account.room
   pub fronts : d.account.loads.fronts ≡ c.account.loads.fronts
   pub shown : d.account.loads.shown ≡ c.account.loads.shown
-  pub heads : d.account.loads.heads ≡ c.account.loads.heads
   pub marks : d.account.loads.marks ≡ c.account.loads.marks
   pub facts : d.account.loads.facts ≡ c.account.loads.facts
+  pub grows : LoadsOn c.account d.account
 
 -- the row is placed, and nothing is answered
 pub record HasPlaced (c d : Seated) (row : Row) : Type 0 where

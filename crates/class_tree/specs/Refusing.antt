@@ -11,6 +11,7 @@ use Rattle.page_pool.specs.Taking.{IsRefused}
 use Rattle.class_tree.specs.declared.insert.InsertError.{InsertError}
 use Rattle.class_tree.specs.declared.insert.InsertError.TheVariants.{NoPage, ChainFull}
 use Rattle.class_tree.specs.Inserting.{HasFullChain}
+use Rattle.class_tree.specs.Loading.{LoadsOn}
 use Rattle.class_tree.specs.Walking.{rest_of}
 
 -- from c to d nothing but this was answered
@@ -18,6 +19,7 @@ pub record Answers (c d : Seated) (e : Entry) : Type 0 where
   pub table : d.table ≡ c.table
   pub shape : d.shape ≡ c.shape
   pub loads : Loads
+  pub grows : LoadsOn c.account d.account
   pub rest : rest_of d.account ≡ record (rest_of c.account) { entries = c.account.entries ++ noted loads (e ∷ []) }
 
 -- the pool refused a page to a caller that keeps none
