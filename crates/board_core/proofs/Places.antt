@@ -25,7 +25,6 @@ module _ (W : ℕ → ℕ → ℕ) (v t : ℕ → Place) (codes : ℕ → List �
     old = p.old;
     low = p.low;
     full = p.full;
-    numbered = p.numbered;
     head = let h = p.head in subst (λ (P : Place). New first × (P.from ≡ y.page) × (P.way ≡ Branch k) × (P.path ≡ x.path) × (P.rank ≡ 0)) (e first h.0) h;
     inner_first = ap (λ (P : Place). P.leaf) (sym (e first p.head.0)) ∙ p.inner_first;
     ranks = λ q n. subst (λ (P : Place). P.rank < 2) (e q n) (p.ranks q n);
