@@ -15,10 +15,9 @@ use Rattle.board_core.specs.SeatRule.{WhoFits}
 use Rattle.board_core.specs.MarkRule.{IsAmong}
 use Rattle.board_core.specs.Loaded.{IsPage, HasOwn}
 use Rattle.board_core.specs.Sheets.{owns}
-use Rattle.board_core.specs.After.{without, after_retire}
+use Rattle.board_core.specs.After.{after_retire}
 use Rattle.board_core.specs.Steps.{Mine, Takes, TakesPage, became}
 use Rattle.board_core.proofs.Lists.{inside, each_none, each_snoc, at_end}
-use Rattle.board_core.proofs.PageSums.{without_else}
 use Rattle.board.specs.Seated.{Seated, IsStock, who_of, with_stock}
 use Rattle.board.proofs.Tied.{seated}
 

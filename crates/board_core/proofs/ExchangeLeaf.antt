@@ -1,5 +1,5 @@
 -- The link to a full leaf is exchanged for own pages that have its rows, or is found to lead to an inner page.
-use Rattle.std.proofs.Common.{◌≡◌, ◌≢◌, ℕ, ◌+◌, ◌*◌, ◌-◌, ◌<◌, ◌≤◌, ◌==◌, ◌⊎◌, Bool, true, false, cond, ltb, List, [], ◌∷◌, ◌++◌, set, get_or, length, sym, refl, ap, ◌∙◌, subst, arith, inl, inr, ⊎_elim, length-append, eq-eqb, ne_eqb, lt-ltb, ltb-true}
+use Rattle.std.proofs.Common.{◌≡◌, ◌≢◌, ℕ, ◌+◌, ◌*◌, ◌<◌, ◌≤◌, ◌==◌, ◌⊎◌, Bool, true, false, cond, ltb, List, [], ◌∷◌, ◌++◌, set, get_or, length, sym, refl, ap, ◌∙◌, subst, arith, inr, ⊎_elim, length-append, eq-eqb, ne_eqb, lt-ltb, ltb-true}
 use mathlib.Core.Option.{some, none}
 use mathlib.Core.Logic.{dite}
 use native.Mathlib.Decide.{ℕ_discrete}
@@ -11,7 +11,6 @@ use Rattle.htss_defs.specs.declared.shape.Shape.{Shape}
 use Rattle.htss_defs.specs.declared.history.Event.{Event}
 use Rattle.board_core.specs.declared.account.Account.{Account}
 use Rattle.board_core.specs.declared.account.View.{View}
-use Rattle.board_core.specs.declared.pool.Own.{Own}
 use Rattle.board_core.specs.declared.tree.Reached.{Reached}
 use Rattle.board_core.specs.Each.{Each}
 use Rattle.board_core.specs.Words.{Parts, parts_of, stored_page}
@@ -39,9 +38,9 @@ use Rattle.board_core.proofs.RowFrame.{rows_same, placed_begun}
 use Rattle.board_core.proofs.Walk.{append_split, up_branch}
 use Rattle.board_core.proofs.PageLoads.{at_visit}
 use Rattle.board_core.proofs.LoadPage.{known_here, load_link}
-use Rattle.board_core.proofs.Linked.{put_is, Left}
+use Rattle.board_core.proofs.Linked.{put_is}
 use Rattle.board_core.proofs.Claimed.{own_apart, own_busy, own_linked}
-use Rattle.board_core.proofs.Stepped.{St, still, words_moved}
+use Rattle.board_core.proofs.Stepped.{still, words_moved}
 use Rattle.board_core.proofs.Treed.{by_tree, page_at, page_past, put_page, busy_page}
 use Rattle.board_core.proofs.LetGo.{all_less, all_gone, all_fit, turned_all}
 use Rattle.board_core.proofs.RowCodes.{may_have}

@@ -10,7 +10,7 @@ use Rattle.board_core.specs.declared.pool.Own.{Own}
 use Rattle.board_core.specs.Each.{Each}
 use Rattle.board_core.specs.Accounts.{account, opener, with_me, keeping, gone, view, accounts_in, caller_after}
 use Rattle.board_core.specs.OwnRule.{OwnFits, OwnRule}
-use Rattle.board_core.specs.After.{after_made, after_page, after_retire, without}
+use Rattle.board_core.specs.After.{after_made, after_page, without}
 use Rattle.board_core.proofs.Lists.{each_none, each_cons}
 use Rattle.board_core.proofs.Everyone.{mine, changed, each_more, each_left, each_gathered}
 

@@ -1,11 +1,8 @@
 -- A plan speaks of the places of new pages alone, so it may be joined with the places of the others.
-use Rattle.std.proofs.Common.{◌≡◌, ◌≢◌, ℕ, ◌+◌, ◌*◌, ◌<◌, ◌-◌, Bool, true, false, cond, List, [], ◌∷◌, ◌++◌, length, sym, refl, ap, ◌∙◌, subst, arith, ltb, lt-ltb, ltb-false}
-use mathlib.Core.Logic.{dite}
-use native.Mathlib.Decide.{ℕ_discrete}
-use Rattle.board_core.specs.declared.tree.Way.{Way}
+use Rattle.std.proofs.Common.{◌≡◌, ℕ, ◌<◌, Bool, true, false, List, [], ◌∷◌, ◌++◌, sym, ap, ◌∙◌, subst}
 use Rattle.board_core.specs.declared.tree.Reached.{Reached}
-use Rattle.board_core.specs.declared.tree.Way.TheVariants.{More, Branch}
-use Rattle.board_core.specs.ClassTree.{Place, at_way, slot_at, IsWay, Follows, PageStands, IsBelow}
+use Rattle.board_core.specs.declared.tree.Way.TheVariants.{Branch}
+use Rattle.board_core.specs.ClassTree.{Place, at_way, IsWay, Follows, PageStands, IsBelow}
 use Rattle.board_core.specs.Split.{NewHasSlot}
 use Rattle.board_core.specs.Plan.{Plan}
 

@@ -1,5 +1,5 @@
 -- An unlinked page is retired with the stamp that was loaded for it.
-use Rattle.std.proofs.Common.{◌≡◌, ◌≢◌, ℕ, ◌+◌, ◌-◌, ◌<◌, ◌≤◌, List, set, sym, refl, ap, ◌∙◌, subst, arith, inl, ⊎_elim}
+use Rattle.std.proofs.Common.{◌≡◌, ◌≢◌, ℕ, ◌+◌, ◌-◌, ◌<◌, ◌≤◌, List, set, sym, refl, ap, ◌∙◌, subst, arith, inl}
 use mathlib.Core.Option.{some, none}
 use mathlib.Core.Logic.{dite}
 use native.Mathlib.Decide.{ℕ_discrete}
@@ -18,13 +18,12 @@ use Rattle.board_core.specs.Sheets.{Sheet, sheet_of, stamp_of, owns, parts, stam
 use Rattle.board_core.specs.PageRule.{PageFits}
 use Rattle.board_core.specs.HeldRule.{HeldFits}
 use Rattle.board_core.specs.PoolRule.{PoolRule}
-use Rattle.board_core.specs.Loaded.{HasParted}
 use Rattle.board_core.specs.Holds.{Rule, Holds}
 use Rattle.board_core.specs.After.{after_retire}
 use Rattle.board_core.specs.Steps.{Mine, MayRetire, Retires}
 use Rattle.board_core.proofs.Everyone.{at_most, total_same, total_changed}
 use Rattle.board_core.proofs.PageSums.{no_stamp, no_stamps, only_total, without_here, without_else}
-use Rattle.board_core.proofs.PoolFrame.{Keeps, KeepsHeld, each_gives, pool_claimed, claim_here}
+use Rattle.board_core.proofs.PoolFrame.{Keeps, KeepsHeld, each_gives, pool_claimed}
 use Rattle.board_core.proofs.Stepped.{words_moved}
 use Rattle.board_core.proofs.Stored.{stored_here, stored_else}
 use Rattle.board_core.proofs.OwnFrame.{own_same}

@@ -1,5 +1,5 @@
 -- Callers that are not pinned, and keep no page: those of a board that was just opened, and what calls of the pool leave of them.
-use Rattle.std.proofs.Common.{◌≡◌, ℕ, suc, ◌+◌, ◌<◌, ◌≤◌, true, List, [], ◌∷◌, length, get_or, true≢false, refl, sym, ap, subst, arith}
+use Rattle.std.proofs.Common.{◌≡◌, ℕ, suc, ◌+◌, ◌<◌, true, List, [], ◌∷◌, length, get_or, true≢false, refl, sym, ap, subst, arith}
 use Rattle.std.specs.Prelude.{remove}
 use Rattle.std.specs.List.{All}
 use Rattle.std.proofs.lemmas.List.Elements.{All-nil, All-cons, All-head, All-tail}

@@ -1,4 +1,4 @@
-use Rattle.std.proofs.Common.{◌≡◌, ℕ, ◌+◌, ◌*◌, ◌≤◌, ap, sym, ◌∙◌, subst, arith}
+use Rattle.std.proofs.Common.{◌≡◌, ◌+◌, ◌*◌, ◌≤◌, ap, sym, ◌∙◌, subst, arith}
 use Rattle.htss_defs.specs.declared.shape.Shape.{Shape}
 use Rattle.board_core.specs.declared.account.Account.{Account}
 use Rattle.board_core.specs.Each.{Each}
@@ -9,7 +9,7 @@ use Rattle.board_core.specs.Steps.{MayExchangeLeaf}
 use Rattle.board.specs.Seated.{Seated}
 use Rattle.board.proofs.Tied.{same_table, same_shape, of_shape, of_account, of_both, of_seated}
 use Rattle.board.proofs.TreeWords.{page_fits}
-use Rattle.board.proofs.Exchanged.{chains_two, exchange_asked, exchange_seat, HasExchanged, exchange_seen}
+use Rattle.board.proofs.Exchanged.{chains_two, exchange_asked, exchange_seat, exchange_seen}
 use Rattle.board.proofs.exchange.exchange_leaf_of.Goals as goal
 
 pub compare_exchange-requires : goal.compare_exchange-requires
