@@ -1,5 +1,6 @@
 // What each kind of step tells, and how seats are split and joined.
 use crate::blocks::Coded;
+use crate::exchange::Replaces;
 use crate::met::Met;
 use crate::pages::Paged;
 use crate::regions::{Completed, Ended, Marked};
@@ -261,8 +262,9 @@ pub(crate) struct LoadSlot<R> {
 
 impl<R: Reaches> Play<(), View> for LoadSlot<R> {
     ghost use Rattle.board_core.specs.Steps.{LoadsSlot};
+    ghost use Rattle.board_core.specs.Boards.{OnBoard};
 
-    ghost then = { LoadsSlot R.number };
+    ghost then = { OnBoard (LoadsSlot R.number) };
 }
 
 pub(crate) struct LoadLink<R> {
@@ -271,8 +273,9 @@ pub(crate) struct LoadLink<R> {
 
 impl<R: Reaches> Play<(), View> for LoadLink<R> {
     ghost use Rattle.board_core.specs.Steps.{LoadsLink};
+    ghost use Rattle.board_core.specs.Boards.{OnBoard};
 
-    ghost then = { LoadsLink R.number R.index R.code };
+    ghost then = { OnBoard (LoadsLink R.number R.index R.code) };
 }
 
 pub(crate) struct LoadMore<R> {
@@ -281,8 +284,9 @@ pub(crate) struct LoadMore<R> {
 
 impl<R: Reaches> Play<(), View> for LoadMore<R> {
     ghost use Rattle.board_core.specs.Steps.{LoadsMore};
+    ghost use Rattle.board_core.specs.Boards.{OnBoard};
 
-    ghost then = { LoadsMore R.number };
+    ghost then = { OnBoard (LoadsMore R.number) };
 }
 
 pub(crate) struct ClaimWord<C> {
@@ -293,6 +297,16 @@ impl<C: Claims> Play<(), View> for ClaimWord<C> {
     ghost use Rattle.board_core.specs.Steps.{ClaimsWord};
 
     ghost then = { ClaimsWord C.claim };
+}
+
+pub(crate) struct ExchangeLeaf<X> {
+    exchange: PhantomData<X>,
+}
+
+impl<X: Replaces> Play<(), View> for ExchangeLeaf<X> {
+    ghost use Rattle.board_core.specs.Steps.{ExchangesLeaf};
+
+    ghost then = { ExchangesLeaf X.exchange };
 }
 
 pub(crate) struct LoadOwnHead;

@@ -98,6 +98,7 @@ pub mod ExchangeLeaf
 pub mod ClaimWord
 pub mod LoadOwnCode
 pub mod LoadMet
+pub mod Boards
 pub mod SplitNote
 pub mod SplitCaller
 pub mod JoinNote

@@ -48,3 +48,4 @@ pub mod Answers
 pub mod Holds
 pub mod Steps
 pub mod Met
+pub mod Boards
