@@ -21,11 +21,11 @@ use Rattle.board_core.specs.Loaded.{IsPage}
 use Rattle.board_core.specs.Rows.{entry_word, code_of, codes_of, words_of, own_codes, HasRow}
 use Rattle.board_core.specs.After.{root, visited, noted, after_code, after_begun, after_unpin}
 use Rattle.board_core.proofs.Lists.{at_last, at_longer}
-use Rattle.board.specs.Seated.{Place, Seated, IsOf, with_account}
+use Rattle.board.specs.Seated.{Place, Seated, IsOf, with_account, with_stock}
 use Rattle.page_pool.specs.Taking.{IsPinned}
 use Rattle.class_tree.specs.declared.insert.InsertError.{InsertError}
 use Rattle.class_tree.specs.declared.insert.InsertError.TheVariants.{NoPage, ChainFull}
-use Rattle.class_tree.specs.Inserting.{HasAnswered, HasBegun, HasFullChain, HasPlaced, IsRefusal}
+use Rattle.class_tree.specs.Inserting.{HasAnswered, HasBegun, HasFullChain, IsNeeded, HasPlaced, IsRefusal}
 use Rattle.class_tree.specs.Refusing.{Answers, Stops}
 use Rattle.class_tree.specs.declared.walks.Stop.{Stop}
 use Rattle.class_tree.specs.declared.walks.Slot.{Slot}
@@ -54,7 +54,7 @@ block_fits k block h inside =
 pub record IsAtDepth (k : Shape) (c d : Seated) (s : Stop) (depth : ℕ) (t : Target) : Type 0 where
   pub down : IsDown k d.account s depth t
   pub goes : Goes 0 c d
-  pub number : s.number ≤ 65536 * depth
+  pub number : s.number ≤ 65537 * depth
   pub low : depth < 5
 
 pub first_depth : (k : Shape) (c : Seated) (s : Stop) (t : Target) → IsDown k c.account s 0 t → s.number ≡ 0 → IsAtDepth k c c s 0 t
@@ -152,13 +152,16 @@ inserted k c d e f g row t (Ok u) b is p placed unpin = record {
   entries = ap (λ (q : Seated). q.account.entries) unpin ∙ (ap (λ (q : Rest). q.entries) placed.rest ∙ (ap (λ (q : Seated). q.account.entries) p.after ∙ ap (λ (q : Rest). q.entries) b.rest));
 }
 inserted k c d e f g row t (Err NoPage) b is p s unpin = record {
-  answered = answered k c d e f g row PageWanted b p s.answers unpin;
-  before = s.before;
-  empty = s.empty;
-  after = f;
-  refused = s.refused;
-  end = unpin;
-  none = ap (λ (q : Seated). q.stock) unpin ∙ s.none;
+  answered = answered k c d e f g row PageWanted b p s.refused.answers unpin;
+  before = s.refused.before;
+  empty = s.refused.empty;
+  after = s.refused.after;
+  refused = s.refused.refused;
+  end = unpin ∙ (ap (λ (q : Seated). with_account q (after_unpin q.account)) s.refused.end
+      ∙ (λ i. with_account (with_stock s.refused.after (ap (λ (q : Seated). q.stock) (sym unpin) i)) (after_unpin s.refused.after.account)));
+  need = s.need;
+  needed = subst (λ (r : Row). IsNeeded k s.refused.after.account r s.need) is (subst (λ (q : Seated). IsNeeded k q.account t.row s.need) s.refused.end s.needed);
+  short = (let same = ap (λ (q : Seated). length q.stock) unpin in let short = s.refused.short in omega arith);
 }
 inserted k c d e f g row t (Err (ChainFull pages)) b is p s unpin = record {
   answered = answered k c d e f g row (ChainWasFull pages) b p s.answers unpin;
@@ -172,7 +175,7 @@ inserted k c d e f g row t (Err (ChainFull pages)) b is p s unpin = record {
 
 placed_grows : (k : Shape) (e f : Seated) (row : Row) (r : Result (Unit {0}) InsertError) → MatchResult r (λ _. Places e f row) (λ x. Stops k e f row x) → LoadsOn e.account f.account
 placed_grows k e f row (Ok u) p = p.grows
-placed_grows k e f row (Err NoPage) s = s.answers.grows
+placed_grows k e f row (Err NoPage) s = s.refused.answers.grows
 placed_grows k e f row (Err (ChainFull pages)) s = s.answers.grows
 
 -- what is the same after each answer
@@ -181,7 +184,7 @@ kept_of a = record (rest_of a) { announced = 0; placed = []; entries = [] }
 
 placed_kept : (k : Shape) (e f : Seated) (row : Row) (r : Result (Unit {0}) InsertError) → MatchResult r (λ _. Places e f row) (λ x. Stops k e f row x) → kept_of f.account ≡ kept_of e.account
 placed_kept k e f row (Ok u) p = ap (λ (x : Rest). record x { announced = 0; placed = []; entries = [] }) p.rest
-placed_kept k e f row (Err NoPage) s = ap (λ (x : Rest). record x { announced = 0; placed = []; entries = [] }) s.answers.rest
+placed_kept k e f row (Err NoPage) s = ap (λ (x : Rest). record x { announced = 0; placed = []; entries = [] }) s.refused.answers.rest
 placed_kept k e f row (Err (ChainFull pages)) s = ap (λ (x : Rest). record x { announced = 0; placed = []; entries = [] }) s.answers.rest
 
 -- after the row was begun

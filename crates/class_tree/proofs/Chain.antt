@@ -128,9 +128,9 @@ next_at k a b s next path rank n leaf h e some_n inside is =
     let page : next.page ≡ n = ap (λ (x : Stop). x.page) is in
     subst (λ (x : Account). IsAt k x next path (rank + 1) leaf 0) (sym e)
     (subst (λ (x : List ℕ × ℕ × Bool). IsAt k (after_more a s.number n) next x.0 x.1 x.2 0) (λ i. (h.on i, (ap (λ (z : ℕ). z + 1) h.at) i, h.kind i))
-    (grown_at k a (after_more a s.number n) s next (next_of (here a s) n) g
+    (grown_at k a (after_more a s.number n) next (next_of (here a s) n) g
     (subst (λ (x : Rest). 0 < x.announced) (sym (rest_more a s.number n)) h.pinned)
-    (subst (IsPage k) (sym page) inside) h.last (ap (λ (x : Stop). x.number) is) (sym page) refl refl refl))
+    (subst (IsPage k) (sym page) inside) (ap (λ (x : Stop). x.number) is ∙ sym h.last) (sym page) refl refl refl))
 
 -- ---- the next page of an inner chain
 

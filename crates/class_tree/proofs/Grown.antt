@@ -92,12 +92,12 @@ grown_high a b z depth g new h j less inner = dite (ℕ_discrete j (length a.tre
     (λ other. let before : j < length a.tree.reached = (let size = g.size in omega arith) in high_if depth (visited b.tree.reached j) (visited a.tree.reached j) (g.shown j before) (h j before) inner)
 
 -- the walk goes on to the new page
-pub grown_at : (k : Shape) (a b : Account) (s next : Stop) (z : Reached) → Grown a b z → 0 < b.pool.announced → IsPage k next.page → length a.tree.reached ≡ s.number + 1 → next.number ≡ s.number + 1 → z.page ≡ next.page → z.slots ≡ [] → z.more ≡ Unread → z.zero ≡ false → IsAt k b next z.path z.rank z.leaf 0
-grown_at k a b s next z g pinned inside last number page none unread not_zero =
-    let e : here b next ≡ z = ap (visited b.tree.reached) (number ∙ sym last) ∙ g.last in record {
+pub grown_at : (k : Shape) (a b : Account) (next : Stop) (z : Reached) → Grown a b z → 0 < b.pool.announced → IsPage k next.page → next.number ≡ length a.tree.reached → z.page ≡ next.page → z.slots ≡ [] → z.more ≡ Unread → z.zero ≡ false → IsAt k b next z.path z.rank z.leaf 0
+grown_at k a b next z g pinned inside number page none unread not_zero =
+    let e : here b next ≡ z = ap (visited b.tree.reached) number ∙ g.last in record {
       pinned = pinned;
       inside = inside;
-      last = g.size ∙ (ap (λ (n : ℕ). n + 1) (last ∙ sym number));
+      last = g.size ∙ ap (λ (n : ℕ). n + 1) (sym number);
       there = ap (λ (x : Reached). x.page) e ∙ page;
       on = ap (λ (x : Reached). x.path) e;
       at = ap (λ (x : Reached). x.rank) e;

@@ -28,10 +28,10 @@ use Rattle.class_tree.proofs.Searching.{goes_less, reads_goes, full_on, none_ful
 use Rattle.class_tree.proofs.Entering.{to_place, goes_places}
 use Rattle.class_tree.proofs.Loadings.{grows_equal}
 
--- leaves chain at every depth
-deep_enough : (n : ℕ) → chained ≤ n
+-- leaves of the last depth chain
+deep_enough : (n : ℕ) → n ≡ 5 → chained ≤ n
 unfolding chained
-deep_enough n = omega arith
+deep_enough n is = omega arith
 
 -- ---- whose the caller is, and its stock
 
@@ -72,22 +72,22 @@ leaf_read k c d s next depth rank n t h e some_n inside is =
 pub leaf_end : (k : Shape) (c d e : Seated) (s : Stop) (depth rank word page header first : ℕ) (t : Target) → IsAtLeaf k c.account s depth rank 14 t → d ≡ with_account c (after_more c.account s.number word) → word ≡ 0 → IsReady k d e page header first → IsAtEnd k c e s (take depth t.codes) rank true
 leaf_end k c d e s depth rank word page header first t h load none ready = at_end_of k c d e s (take depth t.codes) rank word page header first true (whole k c.account s (take depth t.codes) rank true h.at) load none ready
 
-pub may_link_leaf : (k : Shape) (c d e : Seated) (s : Stop) (depth rank word page header : ℕ) (t : Target) → IsAtLeaf k c.account s depth rank 14 t → rank + 1 < k.chain → d ≡ with_account c (after_more c.account s.number word) → word ≡ 0
-    → header ≡ kind_of true + 4 * depth + 32 * (rank + 1) → IsReady k d e page header t.entry → MayLinkMoreLeaf k e.account s.number page t.row
-may_link_leaf k c d e s depth rank word page header t h room load none is ready =
-    let path : List ℕ = take depth t.codes in
-    let end = leaf_end k c d e s depth rank word page header t.entry t h load none ready in
+pub may_link_leaf : (k : Shape) (c d e : Seated) (s : Stop) (rank word page header : ℕ) (t : Target) → IsAtLeaf k c.account s 5 rank 14 t → rank + 1 < k.chain → d ≡ with_account c (after_more c.account s.number word) → word ≡ 0
+    → header ≡ kind_of true + 4 * 5 + 32 * (rank + 1) → IsReady k d e page header t.entry → MayLinkMoreLeaf k e.account s.number page t.row
+may_link_leaf k c d e s rank word page header t h room load none is ready =
+    let path : List ℕ = take 5 t.codes in
+    let end = leaf_end k c d e s 5 rank word page header t.entry t h load none ready in
     let w = end.whole_page in
     let target = target_kept k c.account e.account t end.goes.rest h.target in
-    let long = depth_is k e.account t depth h.deep target in record {
+    let long = depth_is k e.account t 5 h.deep target in record {
       may = record {
         load = may_load_more k e.account s path rank true w;
         rank = (let at = w.at in omega arith);
-        new = subst (λ (n : ℕ). HasStored e.account page (one_word (header_of (next_place (here e.account s))) n)) (sym target.entry) (stored_header e.account page header _ t.entry (next_header (here e.account s) path depth rank header true w.on long w.at w.kind is) ready.stored);
+        new = subst (λ (n : ℕ). HasStored e.account page (one_word (header_of (next_place (here e.account s))) n)) (sym target.entry) (stored_header e.account page header _ t.entry (next_header (here e.account s) path 5 rank header true w.on long w.at w.kind is) ready.stored);
       };
       leaf = w.kind;
-      deep = deep_enough (length (here e.account s).path);
-      row = subst (λ (p : List ℕ). IsToPlace k e.account p t.row) (sym w.on) (to_place k e.account t depth target);
+      deep = deep_enough (length (here e.account s).path) (ap length w.on ∙ long);
+      row = subst (λ (p : List ℕ). IsToPlace k e.account p t.row) (sym w.on) (to_place k e.account t 5 target);
     }
 
 pub leaf_lost : (k : Shape) (c d e f g : Seated) (s next : Stop) (depth rank word found page header : ℕ) (t : Target) → IsAtLeaf k c.account s depth rank 14 t → d ≡ with_account c (after_more c.account s.number word) → word ≡ 0

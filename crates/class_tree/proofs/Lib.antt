@@ -10,3 +10,6 @@ mod Leaves
 mod Behind
 mod Begun
 mod Loadings
+mod Pairs
+mod Takings
+mod Reading

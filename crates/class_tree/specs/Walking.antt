@@ -172,7 +172,7 @@ pub record IsNext (k : Shape) (c d : Seated) (s next : Stop) (depth rank : ℕ) 
 pub record IsFound (k : Shape) (c d : Seated) (x : Slot) (depth : ℕ) (t : Target) : Type 0 where
   pub goes : Goes 0 c d
   pub code : HasCode k d.account x depth t
-  pub number : x.stop.number < 65536 * (depth + 1)
+  pub number : x.stop.number < 65537 * depth + 65536
 
 -- the row was begun, and its five codes were loaded
 pub record Begins (k : Shape) (c d : Seated) (row : Row) : Type 0 where

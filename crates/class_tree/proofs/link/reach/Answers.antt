@@ -32,4 +32,4 @@ pub make_page-requires-clause-stocked : goal.make_page-requires-clause-stocked
 make_page-requires-clause-stocked c = link_stocked c.args.caller.now _ _ _ _ _ c.requires.stocked c.load_link-word.ensures.after
 
 pub returns-in-Err-clause-led : goal.returns-in-Err-clause-led
-returns-in-Err-clause-led c = link_refused _ c.args.caller.now c.load_link-word.new.caller _ _ _ _ _ c.load_link-word.ensures.after c.in-Err.ensures.refused
+returns-in-Err-clause-led c = link_refused _ c.args.caller.now c.load_link-word.new.caller _ _ _ _ _ _ c.load_link-word.ensures.after c.in-Err.ensures.refused
