@@ -95,7 +95,7 @@ own_seat seen used loader number stock next p i x m n t h =
     subst (HasSeat seen used loader number stock next) (sym t) record { facts = (a, b, c, d, e, f, stock_same m.0.shape m.0.me.pool.own (put_own p i x m.0.me.pool.own) stock (λ q. owns_put p i x q m.0.me.pool.own) kept, page) }
 
 -- the log, the region and the stock are as they were
-seat_kept : (seen used : ℕ) (loader : Bool) (number : ℕ) (stock : List ℕ) (next : ℕ) (m n : Mine) (b : Account) → n ≡ became m b → KeepsCaller m.0.me b → ((p : ℕ) → IsAmong stock p → owns p m.0.me.pool.own ≤ owns p b.pool.own) → HasSeat seen used loader number stock next m → HasSeat seen used loader number stock next n
+pub seat_kept : (seen used : ℕ) (loader : Bool) (number : ℕ) (stock : List ℕ) (next : ℕ) (m n : Mine) (b : Account) → n ≡ became m b → KeepsCaller m.0.me b → ((p : ℕ) → IsAmong stock p → owns p m.0.me.pool.own ≤ owns p b.pool.own) → HasSeat seen used loader number stock next m → HasSeat seen used loader number stock next n
 seat_kept seen used loader number stock next m n after t keeps stocked h =
     let (a, b, c, d, e, f, kept, inside) = h.facts in
     subst (HasSeat seen used loader number stock next) (sym t) record {
@@ -115,11 +115,11 @@ seat_kept seen used loader number stock next m n after t keeps stocked h =
 slot_same : (a : Account) (j n : ℕ) → KeepsCaller a (after_slot a j n)
 slot_same a j n = record { who = refl; log = refl; room = refl }
 
-link_same : (a : Account) (j i c n : ℕ) (leaf : Bool) → KeepsCaller a (after_link a j i c n leaf) × ((after_link a j i c n leaf).pool ≡ a.pool)
+pub link_same : (a : Account) (j i c n : ℕ) (leaf : Bool) → KeepsCaller a (after_link a j i c n leaf) × ((after_link a j i c n leaf).pool ≡ a.pool)
 link_same a j i c zero leaf = (record { who = refl; log = refl; room = refl }, refl)
 link_same a j i c (suc n) leaf = (record { who = refl; log = refl; room = refl }, refl)
 
-still_owned : (stock : List ℕ) (a b : Account) → b.pool ≡ a.pool → (p : ℕ) → IsAmong stock p → owns p a.pool.own ≤ owns p b.pool.own
+pub still_owned : (stock : List ℕ) (a b : Account) → b.pool ≡ a.pool → (p : ℕ) → IsAmong stock p → owns p a.pool.own ≤ owns p b.pool.own
 still_owned stock a b same p among = let e : owns p b.pool.own ≡ owns p a.pool.own = ap (λ (x : PoolAccount). owns p x.own) same in omega arith
 
 lost_seat : (claim : Claim) (seen used : ℕ) (loader : Bool) (number : ℕ) (stock : List ℕ) (next found : ℕ) (s : Step (Unit {0})) (m n : Mine) → LoadsInstead claim s m found n → HasSeat seen used loader number stock next m → HasSeat seen used loader number stock next n

@@ -1,5 +1,6 @@
 // What each kind of step tells, and how seats are split and joined.
 use crate::blocks::Coded;
+use crate::exchange::Replaces;
 use crate::met::Met;
 use crate::pages::Paged;
 use crate::regions::{Completed, Ended, Marked};
@@ -296,6 +297,16 @@ impl<C: Claims> Play<(), View> for ClaimWord<C> {
     ghost use Rattle.board_core.specs.Steps.{ClaimsWord};
 
     ghost then = { ClaimsWord C.claim };
+}
+
+pub(crate) struct ExchangeLeaf<X> {
+    exchange: PhantomData<X>,
+}
+
+impl<X: Replaces> Play<(), View> for ExchangeLeaf<X> {
+    ghost use Rattle.board_core.specs.Steps.{ExchangesLeaf};
+
+    ghost then = { ExchangesLeaf X.exchange };
 }
 
 pub(crate) struct LoadOwnHead;

@@ -1,13 +1,9 @@
 -- Each step tells that there is a board that has the caller. What that says of an entry that was read.
-use Rattle.std.proofs.Common.{◌≡◌, ℕ, List, set, sym, refl, ap, ◌∙◌, subst}
-use mathlib.Core.Option.{some}
-use lib.ListN.{get_elem?}
-use Rattle.atomic_table.specs.Table.{Step, step, Allows}
+use Rattle.std.proofs.Common.{◌≡◌, ℕ, sym, refl, subst}
+use Rattle.atomic_table.specs.Table.{Step, Allows}
 use Rattle.atomic_table.proofs.Lists.{set_here}
 use Rattle.htss_defs.specs.declared.shape.Shape.{Shape}
 use Rattle.board_core.specs.declared.account.Account.{Account}
-use Rattle.board_core.specs.declared.account.View.{View}
-use Rattle.board_core.specs.Words.{parts_of}
 use Rattle.board_core.specs.Histories.{history_of}
 use Rattle.board_core.specs.Holds.{Holds}
 use Rattle.board_core.specs.Rows.{block_named}

@@ -1,5 +1,5 @@
 -- The link to a full leaf is exchanged for own pages that have its rows, or is found to lead to an inner page.
-use Rattle.std.proofs.Common.{◌≡◌, ◌≢◌, ℕ, ◌+◌, ◌*◌, ◌-◌, ◌<◌, ◌≤◌, ◌==◌, ◌⊎◌, Bool, true, false, cond, ltb, List, [], ◌∷◌, ◌++◌, set, get_or, length, sym, refl, ap, ◌∙◌, subst, arith, inl, inr, ⊎_elim, length-append, eq-eqb, ne_eqb, lt-ltb, ltb-true}
+use Rattle.std.proofs.Common.{◌≡◌, ◌≢◌, ℕ, ◌+◌, ◌*◌, ◌<◌, ◌≤◌, ◌==◌, ◌⊎◌, Bool, true, false, cond, ltb, List, [], ◌∷◌, ◌++◌, set, get_or, length, sym, refl, ap, ◌∙◌, subst, arith, inr, ⊎_elim, length-append, eq-eqb, ne_eqb, lt-ltb, ltb-true}
 use mathlib.Core.Option.{some, none}
 use mathlib.Core.Logic.{dite}
 use native.Mathlib.Decide.{ℕ_discrete}
@@ -11,7 +11,6 @@ use Rattle.htss_defs.specs.declared.shape.Shape.{Shape}
 use Rattle.htss_defs.specs.declared.history.Event.{Event}
 use Rattle.board_core.specs.declared.account.Account.{Account}
 use Rattle.board_core.specs.declared.account.View.{View}
-use Rattle.board_core.specs.declared.pool.Own.{Own}
 use Rattle.board_core.specs.declared.tree.Reached.{Reached}
 use Rattle.board_core.specs.Each.{Each}
 use Rattle.board_core.specs.Words.{Parts, parts_of, stored_page}
@@ -31,7 +30,7 @@ use Rattle.board_core.specs.Loaded.{IsPage, page_word}
 use Rattle.board_core.specs.Holds.{Rule, Holds}
 use Rattle.board_core.specs.After.{visited, let_go_all, after_split, after_link}
 use Rattle.board_core.specs.FactRule.{BlocksStand}
-use Rattle.board_core.specs.Steps.{Mine, MayLoadLink, MayExchangeLeaf, ExchangesLeaf}
+use Rattle.board_core.specs.Steps.{Mine, MayExchangeLeaf, Exchange, ExchangesLeaf}
 use Rattle.board_core.proofs.Lists.{inside, set_twice}
 use Rattle.board_core.proofs.Everyone.{mine, at_most}
 use Rattle.board_core.proofs.PoolTree.{pool_links, one_parted}
@@ -39,9 +38,9 @@ use Rattle.board_core.proofs.RowFrame.{rows_same, placed_begun}
 use Rattle.board_core.proofs.Walk.{append_split, up_branch}
 use Rattle.board_core.proofs.PageLoads.{at_visit}
 use Rattle.board_core.proofs.LoadPage.{known_here, load_link}
-use Rattle.board_core.proofs.Linked.{put_is, Left}
-use Rattle.board_core.proofs.Claimed.{own_linked}
-use Rattle.board_core.proofs.Stepped.{St, still, words_moved}
+use Rattle.board_core.proofs.Linked.{put_is}
+use Rattle.board_core.proofs.Claimed.{own_apart, own_busy, own_linked}
+use Rattle.board_core.proofs.Stepped.{still, words_moved}
 use Rattle.board_core.proofs.Treed.{by_tree, page_at, page_past, put_page, busy_page}
 use Rattle.board_core.proofs.LetGo.{all_less, all_gone, all_fit, turned_all}
 use Rattle.board_core.proofs.RowCodes.{may_have}
@@ -139,7 +138,7 @@ module _ (k : Shape) (p : Parts) (h : List Event) (vs : List View) (id j i c l :
 
   -- ---- the exchange that is won
 
-  module _ (chain : 2 ≤ k.chain) (past : (q t : ℕ) → 16 ≤ t → p.pages q t ≡ 0) (there : w y.page (3 + 2 * i) ≡ x.page) where
+  module _ (chain : 2 ≤ k.chain) (some_page : (q : ℕ) → p.pool.states q ≢ 0 → q ≢ 0) (past : (q t : ℕ) → 16 ≤ t → p.pages q t ≡ 0) (there : w y.page (3 + 2 * i) ≡ x.page) where
     abbrev a : Account
     a = after_split v.me numbers x.page
 
@@ -168,6 +167,12 @@ module _ (k : Shape) (p : Parts) (h : List Event) (vs : List View) (id j i c l :
     planned_at q n = ap (λ b. cond b (may.places q) (m q)) (sym (lt-ltb (owns q (let_go_all numbers v.me.pool.own)) (owns q v.me.pool.own)
         (let gone = all_gone numbers v.me.pool.own q n in let some_own = own n.0 q n.1 in omega arith)))
 
+    -- an own page is one of the table, and not the root
+    numbered : (q : ℕ) → IsAmong numbers q → (q ≢ 0) × (q ≢ 1)
+    numbered q n =
+        let some_own = own n.0 q n.1 in
+        (some_page q (own_busy k p.pool vs id q v r.pool at some_own), λ e. own_apart k p.pool vs id q v r.pool at some_own (subst (λ (z : ℕ). IsLinked s z) (sym e) r.tree.tree.root))
+
     stored : (q : ℕ) → IsAmong numbers q → own_word v.me.pool.own q ≡ w q
     stored q n = whole_words w v.me q (mine (λ b. Each (OwnFits w) b.pool.own) vs id v at r.own) (may.whole n.0 q n.1) (past q)
 
@@ -177,7 +182,7 @@ module _ (k : Shape) (p : Parts) (h : List Event) (vs : List View) (id j i c l :
 
     may_split : MaySplit w s m new codes (IsAmong numbers) y.page i x.page first
     may_split = planned w (own_word v.me.pool.own) s m new codes (IsPlaced vs) (IsOldRow k p.regions p.log.slots v.me.tree.front) (IsAmong numbers) v.me.tree.reached y x i first r.tree.tree known plan there
-        (r.tree.tree.numbered x.page leaf_linked) stored
+        (r.tree.tree.numbered x.page leaf_linked) numbered stored
 
     turn : Turns s (sheet_of p.pool.states (set vs id (with_me v a))) (IsAmong numbers) x.page
     turn = turned_all k p.pool vs id v a x.page r.pool at leaf_linked refl (all_less numbers v.me.pool.own) numbers refl own
@@ -215,10 +220,14 @@ module _ (k : Shape) (p : Parts) (h : List Event) (vs : List View) (id j i c l :
 
 -- ---- as the table asks
 
+-- the leaf is reached as l
+abbrev exchange : Mine → ℕ → ℕ → ℕ → ℕ → List ℕ → ℕ → Exchange
+exchange m j i c l numbers first = record { inner = j; index = i; code = c; leaf = (visited m.0.me.tree.reached l).page; numbers = numbers; first = first }
+
 pub exchange_allowed : (k : Shape) (slots id j i c l at_word : ℕ) (numbers : List ℕ) (first : ℕ) (m : Mine) → at_word ≡ page_word k (visited m.0.me.tree.reached j).page (3 + 2 * i) → i < 7 → 2 ≤ k.chain → m.0.shape ≡ k
     → MayExchangeLeaf k m.0.me j i c l numbers first
     → Allows (Holds k) slots id m at_word (λ f. either (f == (visited m.0.me.tree.reached l).page) first f)
-    (ExchangesLeaf j i c (visited m.0.me.tree.reached l).page numbers first (step slots at_word (visited m.0.me.tree.reached l).page first none) m)
+    (ExchangesLeaf (exchange m j i c l numbers first) (step slots at_word (visited m.0.me.tree.reached l).page first none) m)
 exchange_allowed k slots id j i c l at_word numbers first m is small chain shape may s h _ at within =
     let n : ℕ = get_or s.words at_word 0 in
     let p : Parts = parts_of k s.words in
@@ -233,7 +242,7 @@ exchange_allowed k slots id j i c l at_word numbers first m is small chain shape
       subst (λ b. Holds k (stepped s at_word (either b first n) id m.1 (with_me m.0 (after_link (after_split m.0.me numbers x.page) j i c first false)) keeps)) (sym (eq-eqb n x.page won))
           (words_moved k s at_word first id m.1 m.0 (after_link (after_split m.0.me numbers x.page) j i c first false) _ h
           (ap (λ (z : ℕ). parts_of k (set s.words z first)) is ∙ put_page k s.words y.page (3 + 2 * i) first h.wide may.load.visit.inside (omega arith))
-          (exchange_loaded k p (history_of k p) s.views id j i c l numbers first m.0 h.rule at may chain (page_past k s.words) (same ∙ won))),
+          (exchange_loaded k p (history_of k p) s.views id j i c l numbers first m.0 h.rule at may chain (λ q busy. let page = busy_page k s.words q busy in let above = page.0 in λ z. omega arith) (page_past k s.words) (same ∙ won))),
       record { won = λ _. refl; lost = λ other. absurd (other won); page = subst (λ (z : Shape × ℕ). IsPage z.0 z.1) (λ t. (sym shape t, sym won t)) may.visit.inside },
     ))
     (λ lost. (

@@ -1,5 +1,5 @@
 -- Own pages are let go and one linked page is unlinked: which pages are linked then.
-use Rattle.std.proofs.Common.{◌≡◌, ◌≢◌, ℕ, zero, suc, ◌+◌, ◌-◌, ◌<◌, ◌≤◌, ◌⊎◌, List, [], ◌∷◌, set, sym, refl, ap, ◌∙◌, subst, arith, inl, inr, ⊎_elim}
+use Rattle.std.proofs.Common.{◌≡◌, ◌≢◌, ℕ, zero, suc, ◌+◌, ◌<◌, ◌≤◌, List, [], ◌∷◌, set, sym, refl, ap, ◌∙◌, subst, arith, inl, inr, ⊎_elim}
 use mathlib.Core.Option.{some, some-injective, some-ne-none}
 use mathlib.Core.Logic.{dite}
 use native.Mathlib.Decide.{ℕ_discrete}
@@ -10,7 +10,7 @@ use Rattle.board_core.specs.declared.account.View.{View}
 use Rattle.board_core.specs.declared.pool.Own.{Own}
 use Rattle.board_core.specs.Each.{Each}
 use Rattle.board_core.specs.Words.{PoolWords}
-use Rattle.board_core.specs.Accounts.{with_me, total}
+use Rattle.board_core.specs.Accounts.{with_me}
 use Rattle.board_core.specs.Sheets.{Sheet, sheet_of, IsLinked, owns, parts}
 use Rattle.board_core.specs.PoolRule.{PoolRule}
 use Rattle.board_core.specs.MarkRule.{IsAmong}

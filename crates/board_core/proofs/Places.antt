@@ -1,11 +1,8 @@
 -- A plan speaks of the places of new pages alone, so it may be joined with the places of the others.
-use Rattle.std.proofs.Common.{◌≡◌, ◌≢◌, ℕ, ◌+◌, ◌*◌, ◌<◌, ◌-◌, Bool, true, false, cond, List, [], ◌∷◌, ◌++◌, length, sym, refl, ap, ◌∙◌, subst, arith, ltb, lt-ltb, ltb-false}
-use mathlib.Core.Logic.{dite}
-use native.Mathlib.Decide.{ℕ_discrete}
-use Rattle.board_core.specs.declared.tree.Way.{Way}
+use Rattle.std.proofs.Common.{◌≡◌, ℕ, ◌<◌, Bool, true, false, List, [], ◌∷◌, ◌++◌, sym, ap, ◌∙◌, subst}
 use Rattle.board_core.specs.declared.tree.Reached.{Reached}
-use Rattle.board_core.specs.declared.tree.Way.TheVariants.{More, Branch}
-use Rattle.board_core.specs.ClassTree.{Place, at_way, slot_at, IsWay, Follows, PageStands, IsBelow}
+use Rattle.board_core.specs.declared.tree.Way.TheVariants.{Branch}
+use Rattle.board_core.specs.ClassTree.{Place, at_way, IsWay, Follows, PageStands, IsBelow}
 use Rattle.board_core.specs.Split.{NewHasSlot}
 use Rattle.board_core.specs.Plan.{Plan}
 
@@ -25,7 +22,6 @@ module _ (W : ℕ → ℕ → ℕ) (v t : ℕ → Place) (codes : ℕ → List �
     old = p.old;
     low = p.low;
     full = p.full;
-    numbered = p.numbered;
     head = let h = p.head in subst (λ (P : Place). New first × (P.from ≡ y.page) × (P.way ≡ Branch k) × (P.path ≡ x.path) × (P.rank ≡ 0)) (e first h.0) h;
     inner_first = ap (λ (P : Place). P.leaf) (sym (e first p.head.0)) ∙ p.inner_first;
     ranks = λ q n. subst (λ (P : Place). P.rank < 2) (e q n) (p.ranks q n);

@@ -14,7 +14,7 @@ use Rattle.board_core.proofs.Lists.{inside}
 use Rattle.board_core.proofs.Seen.{has_at}
 
 module _ (w W : ℕ → ℕ → ℕ) (s : Sheet) (m v : ℕ → Place) (codes : ℕ → List ℕ) (put old : ℕ → Type 0) (New : ℕ → Type 0) (rs : List Reached) (y x : Reached) (k first : ℕ)
-    (t : Tree w s m codes put) (h : KnowsPages w s m codes old rs) (p : Plan W v codes New rs y x k first) (there : w y.page (3 + 2 * k) ≡ x.page) (some_x : x.page ≢ 0)
+    (t : Tree w s m codes put) (h : KnowsPages w s m codes old rs) (p : Plan W v codes New rs y x k first) (there : w y.page (3 + 2 * k) ≡ x.page) (some_x : x.page ≢ 0) (numbered : (q : ℕ) → New q → (q ≢ 0) × (q ≢ 1))
     (stored : (q : ℕ) → New q → W q ≡ w q) where
   inner_fits : ReachedFits w s m y
   inner_fits = h.fits p.inner.0 y p.inner.1
@@ -63,7 +63,7 @@ module _ (w W : ℕ → ℕ → ℕ) (s : Sheet) (m v : ℕ → Place) (codes : 
     low = subst (λ (l : List ℕ). length l < 5) path p.low;
     there = there;
     full = λ i room z. let full = p.full in let a = has_at x.slots i (omega arith) in let c = known_slot a.0 i a.1 in c.0 (sym c.1 ∙ z);
-    numbered = p.numbered;
+    numbered = numbered;
     head = let a = p.head in (a.0, a.1, a.2, a.3 ∙ path, a.4);
     inner_first = p.inner_first;
     ranks = p.ranks;

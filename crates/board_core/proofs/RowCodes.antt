@@ -1,19 +1,17 @@
 -- The table shows codes of the rows of a linked leaf that agree with what was loaded of them.
-use Rattle.std.proofs.Common.{◌≡◌, ◌≢◌, ℕ, zero, suc, ◌+◌, ◌-◌, ◌*◌, ◌<◌, ◌≤◌, Bool, true, false, List, [], ◌∷◌, ◌++◌, length, sym, refl, ap, ◌∙◌, subst, arith, slice_index, length-append}
+use Rattle.std.proofs.Common.{◌≡◌, ◌≢◌, ℕ, zero, suc, ◌+◌, ◌-◌, ◌<◌, ◌≤◌, Bool, true, List, [], ◌∷◌, ◌++◌, length, sym, refl, ap, ◌∙◌, subst, arith, slice_index, length-append}
 use mathlib.Core.Option.{some}
 use lib.ListN.{get_elem?}
 use Rattle.htss_defs.specs.declared.shape.Shape.{Shape}
 use Rattle.board_core.specs.declared.account.Account.{Account}
 use Rattle.board_core.specs.declared.tree.Reached.{Reached}
-use Rattle.board_core.specs.Each.{Each, In}
 use Rattle.board_core.specs.Sheets.{Sheet, IsLinked}
 use Rattle.board_core.specs.Rows.{block_named, atom_named, code_of, codes_of, codes_in}
 use Rattle.board_core.specs.Histories.{block_at}
 use Rattle.board_core.specs.Records.{code_word_at}
 use Rattle.board_core.specs.ClassTree.{Place, HasSlot, page_room, slot_at, IsBelow, Tree}
-use Rattle.board_core.specs.KnownPages.{place_of, ReachedFits}
+use Rattle.board_core.specs.KnownPages.{ReachedFits}
 use Rattle.board_core.specs.FactRule.{CodeStands, BlocksStand}
-use Rattle.board_core.specs.Loaded.{HasCode}
 use Rattle.board_core.specs.Plan.{MayHaveCodes}
 use Rattle.board_core.proofs.Lists.{inside}
 

@@ -1,5 +1,5 @@
 -- The exchange that unlinks a leaf: the tree's part, and what each caller knows.
-use Rattle.std.proofs.Common.{◌≡◌, ◌≢◌, ℕ, zero, suc, ◌+◌, ◌*◌, ◌-◌, ◌<◌, ◌≤◌, ◌⊎◌, Bool, true, false, List, [], ◌∷◌, ◌++◌, length, sym, refl, ap, ◌∙◌, subst, arith, inl, inr, ⊎_elim, length-append}
+use Rattle.std.proofs.Common.{◌≡◌, ◌≢◌, ℕ, ◌+◌, ◌*◌, ◌<◌, ◌⊎◌, Bool, true, false, List, [], ◌∷◌, ◌++◌, length, sym, refl, ap, ◌∙◌, subst, arith, inl, inr, ⊎_elim, length-append}
 use mathlib.Core.Option.{some}
 use mathlib.Core.Logic.{dite}
 use native.Mathlib.Decide.{ℕ_discrete}
@@ -7,16 +7,14 @@ use lib.ListN.{get_elem?}
 use Rattle.board_core.specs.declared.tree.Way.{Way}
 use Rattle.board_core.specs.declared.tree.Way.TheVariants.{More, Branch}
 use Rattle.board_core.specs.declared.tree.Reached.{Reached}
-use Rattle.board_core.specs.declared.tree.Link.{Link}
-use Rattle.board_core.specs.declared.tree.Link.TheVariants.{Unread, Absent, To}
 use Rattle.board_core.specs.Each.{Each}
 use Rattle.board_core.specs.Sheets.{Sheet, IsLinked}
-use Rattle.board_core.specs.ClassTree.{Place, chained, at_way, slot_at, page_room, header_of, Follows, IsWay, PageStands, IsNamed, IsFrom, HasSlot, Stands, IsBelow, Tree}
-use Rattle.board_core.specs.KnownPages.{place_of, IsFullLeaf, ReachedFits, KnowsPages, AreKept}
+use Rattle.board_core.specs.ClassTree.{Place, chained, at_way, slot_at, header_of, Follows, PageStands, IsNamed, IsFrom, HasSlot, Stands, IsBelow, Tree}
+use Rattle.board_core.specs.KnownPages.{IsFullLeaf, KnowsPages, AreKept}
 use Rattle.board_core.specs.Turns.{IsPut, Turns}
 use Rattle.board_core.specs.Split.{NewHasSlot, MaySplit}
 use Rattle.board_core.proofs.Walk.{chain_back, one_kind, above, append_split, row_home}
-use Rattle.board_core.proofs.Graft.{Grafts, same_way, slot_apart, grafted}
+use Rattle.board_core.proofs.Graft.{Grafts, grafted}
 use Rattle.board_core.proofs.KnownSteps.{Stays, known_words}
 use Rattle.board_core.proofs.PageLoads.{branch_path}
 use Rattle.board_core.proofs.Kept.{kept_words}

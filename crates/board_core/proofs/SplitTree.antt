@@ -1,5 +1,5 @@
 -- The tree part of the rule under the exchange that puts own pages in a full leaf's place.
-use Rattle.std.proofs.Common.{◌≡◌, ◌≢◌, ℕ, ◌+◌, ◌*◌, ◌%◌, ◌-◌, ◌<◌, ◌≤◌, ◌⊎◌, Bool, true, false, List, [], ◌∷◌, ◌++◌, set, length, sym, refl, ap, ◌∙◌, subst, arith, inl, inr, ⊎_elim}
+use Rattle.std.proofs.Common.{◌≡◌, ◌≢◌, ℕ, ◌+◌, ◌*◌, ◌%◌, ◌<◌, ◌≤◌, Bool, true, false, List, [], ◌∷◌, ◌++◌, set, length, sym, refl, ap, ◌∙◌, subst, arith, inl, inr, ⊎_elim}
 use mathlib.Core.Option.{some}
 use mathlib.Core.Logic.{dite}
 use native.Mathlib.Decide.{ℕ_discrete}
@@ -7,7 +7,6 @@ use lib.ListN.{get_elem?}
 use Rattle.htss_defs.specs.declared.shape.Shape.{Shape}
 use Rattle.board_core.specs.declared.account.Account.{Account}
 use Rattle.board_core.specs.declared.account.View.{View}
-use Rattle.board_core.specs.declared.tree.Reached.{Reached}
 use Rattle.board_core.specs.declared.tree.TreeAccount.{TreeAccount}
 use Rattle.board_core.specs.Each.{Each}
 use Rattle.board_core.specs.Words.{PoolWords}
@@ -17,9 +16,9 @@ use Rattle.board_core.specs.HeldRule.{HeldFits}
 use Rattle.board_core.specs.Sheets.{Sheet, sheet_of, IsLinked}
 use Rattle.board_core.specs.PoolRule.{PoolRule}
 use Rattle.board_core.specs.Rows.{HasRow, IsBegun, IsPlaced}
-use Rattle.board_core.specs.ClassTree.{Place, kind_of, header_of, HasSlot, Stands, IsBelow, Tree}
+use Rattle.board_core.specs.ClassTree.{Place, kind_of, header_of, Stands, IsBelow, Tree}
 use Rattle.board_core.specs.Turns.{IsPut, Turns}
-use Rattle.board_core.specs.Split.{NewHasSlot, MaySplit}
+use Rattle.board_core.specs.Split.{MaySplit}
 use Rattle.board_core.specs.KnownPages.{AreKept}
 use Rattle.board_core.specs.KnownRule.{Knows}
 use Rattle.board_core.specs.TreeRule.{CodeBegun, TreeRule}
@@ -27,7 +26,7 @@ use Rattle.board_core.proofs.Everyone.{mine, moved}
 use Rattle.board_core.proofs.PoolFrame.{each_both}
 use Rattle.board_core.proofs.Kept.{kept_same}
 use Rattle.board_core.proofs.TreeFrame.{same_placed, rows_stay, placed_split}
-use Rattle.board_core.proofs.ChainFrame.{IsAlone, IsLinkWord, KeepsPages}
+use Rattle.board_core.proofs.ChainFrame.{IsAlone, KeepsPages}
 use Rattle.board_core.proofs.Linked.{held_free}
 use Rattle.board_core.proofs.Split.{splits, split_known, split_kept, leaf_place, no_more}
 

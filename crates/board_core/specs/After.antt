@@ -180,7 +180,7 @@ without page p [] = []
 without page p (x ∷ xs) = keep_unless p (page x) x (without page p xs)
 
 abbrev pub after_retire : Account → ℕ → Account
-after_retire a p = record a { pool = record a.pool { own = without (λ o. o.page) p a.pool.own; parted = without (λ u. u.page) p a.pool.parted } }
+after_retire a p = record a { pool = record a.pool { parted = without (λ u. u.page) p a.pool.parted } }
 
 -- ---- the class tree
 

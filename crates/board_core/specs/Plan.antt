@@ -42,7 +42,6 @@ pub record Plan (W : ℕ → ℕ → ℕ) (v : ℕ → Place) (codes : ℕ → L
   pub old : x.leaf ≡ true
   pub low : length x.path < 5
   pub full : length x.slots ≡ 14
-  pub numbered : (p : ℕ) → New p → (p ≢ 0) × (p ≢ 1)
   pub head : New first × ((v first).from ≡ y.page) × ((v first).way ≡ Branch k) × ((v first).path ≡ x.path) × ((v first).rank ≡ 0)
   pub inner_first : (v first).leaf ≡ false
   pub ranks : (p : ℕ) → New p → (v p).rank < 2

@@ -141,10 +141,10 @@ pub record MayTakePage (k : Shape) (a : Account) (loader p x : ℕ) : Type 0 whe
   pub below : x ≢ 0 → x ≤ a.pool.low
   pub scanned : x ≢ 0 → k.loaders + k.searchers ≤ a.pool.passed
 
--- a page may be retired with this stamp: it is unlinked and has it, or it is the caller's own, and the epoch was loaded
+-- a page may be retired with this stamp: it is unlinked and has it
 pub record MayRetire (k : Shape) (a : Account) (p n : ℕ) : Type 0 where
   pub inside : IsPage k p
-  pub kind : HasParted a p n ⊎ (HasOwn a p × HasEpoch a n)
+  pub parted : HasParted a p n
 
 -- a code of an own row may be loaded
 pub record MayLoadOwn (k : Shape) (a : Account) (row : Row) (head code : ℕ) : Type 0 where
@@ -234,6 +234,20 @@ pub record MayExchangeLeaf (k : Shape) (a : Account) (j i c l : ℕ) (numbers : 
   pub places : ℕ → Place
   pub plan : (codes : ℕ → List ℕ) → MayHaveCodes a (visited a.tree.reached l) codes
       → Plan (own_word a.pool.own) places codes (IsAmong numbers) a.tree.reached (visited a.tree.reached j) (visited a.tree.reached l) i first
+
+-- which exchange it is: the inner page by its number, the link and its code, the leaf's page, the own pages that go, and the one that
+-- takes the leaf's place
+pub record Exchange : Type 0 where
+  pub inner : ℕ
+  pub index : ℕ
+  pub code : ℕ
+  pub leaf : ℕ
+  pub numbers : List ℕ
+  pub first : ℕ
+
+-- the account after it is won: the page in the leaf's place is known as if it had been loaded
+abbrev pub after_exchange : Account → Exchange → Account
+after_exchange a e = after_link (after_split a e.numbers e.leaf) e.inner e.index e.code e.first false
 
 -- an exchange of a page word that is 0: a link for a leaf that has a row, an entry for a row, a code word for a code, the next page for
 -- a leaf that has a row, and for an inner page that has a code. Pages that were reached go by their numbers
@@ -433,11 +447,11 @@ pub record Claims (after : Account) (Loads : Step (Unit {0}) → Mine → ℕ �
   pub won : found ≡ 0 → n ≡ became m after
   pub lost : found ≢ 0 → Loads s m found n
 
--- the leaf stood behind the link: the new pages are in the tree, and the first of them is reached. Else it is another page, which is an
+-- the leaf stood behind the link: the new pages are in the tree, and the first of them is reached. Else another page did, which is an
 -- inner one and was reached
-pub record ExchangesLeaf (j i c leaf : ℕ) (numbers : List ℕ) (first : ℕ) (s : Step (Unit {0})) (m : Mine) (found : ℕ) (n : Mine) : Type 0 where
-  pub won : found ≡ leaf → n ≡ became m (after_link (after_split m.0.me numbers leaf) j i c first false)
-  pub lost : found ≢ leaf → n ≡ became m (after_link m.0.me j i c found false)
+pub record ExchangesLeaf (e : Exchange) (s : Step (Unit {0})) (m : Mine) (found : ℕ) (n : Mine) : Type 0 where
+  pub won : found ≡ e.leaf → n ≡ became m (after_exchange m.0.me e)
+  pub lost : found ≢ e.leaf → n ≡ became m (after_link m.0.me e.inner e.index e.code found false)
   pub page : IsPage m.0.shape found
 
 abbrev pub LoadsInstead : Claim → Step (Unit {0}) → Mine → ℕ → Mine → Type 0
