@@ -32,7 +32,7 @@ noted_true k h l (e ∷ es) all = each_cons (λ n. IsTrueLog k h n.entry) _ (not
 
 -- what each account knows agrees with the board
 pub agree_all : (k : Shape) (p : Parts) (h : List Event) (vs : List View) → Rule k p h vs → EachAccount (Agrees k p) vs
-agree_all k p h vs r j u at i x there = record { seen = (r.log.hands j u at i x there).seen; shown = r.loads j u at i x there; blocks = r.facts.stand j u at i x there }
+agree_all k p h vs r j u at i x there = record { seen = (r.log.hands j u at i x there).seen; shown = r.loads j u at i x there; blocks = r.facts.stand j u at i x there; swept = λ t n here. (r.swept j u at i x there t n here).0 }
 
 pub agrees : (k : Shape) (p : Parts) (h : List Event) (vs : List View) (id : ℕ) (v : View) → Rule k p h vs → get_elem? vs id ≡ some v → Agrees k p v.me
 agrees k p h vs id v r at = mine (Agrees k p) vs id v at (agree_all k p h vs r)
