@@ -143,7 +143,7 @@ module _ (k : Shape) (a b : Account) (grown : Grows a b) where
   }
 
   pub agrees_before : (p : Parts) → Agrees k p b → Agrees k p a
-  agrees_before p agrees = let less = grown.seen in let seen = agrees.seen in record { seen = omega arith; shown = λ j x there. agrees.shown j x (grown.shown j x there); blocks = stand_before p.regions p.log.front agrees.blocks }
+  agrees_before p agrees = let less = grown.seen in let seen = agrees.seen in record { seen = omega arith; shown = λ j x there. agrees.shown j x (grown.shown j x there); blocks = stand_before p.regions p.log.front agrees.blocks; firsts = λ j l there. agrees.firsts j l (grown.codes j l there) }
 
   pub board_before : (p : Parts) → MayBe k p b → MayBe k p a
   board_before p f = record { known = f.known; agrees = agrees_before p f.agrees }
