@@ -19,7 +19,7 @@ mod stock;
 mod swept;
 mod tree;
 
-pub use blocks::{load_code, load_fact, load_head, load_mark};
+pub use blocks::{load_code, load_fact, load_head, load_mark, load_shown};
 pub use close::{Final, gather};
 pub use epochs::{
     LAST_EPOCH, advance_epoch, clear_announcement, load_announcement, load_epoch,

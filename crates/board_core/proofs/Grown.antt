@@ -1,5 +1,5 @@
 -- What an account has loaded stays loaded as it loads more, and a board that agrees with the later account agrees with the earlier.
-use Rattle.std.proofs.Common.{◌≡◌, ℕ, ◌+◌, ◌-◌, ◌<◌, ◌≤◌, [], ◌∷◌, length, sym, refl, subst, arith}
+use Rattle.std.proofs.Common.{◌≡◌, ℕ, ◌+◌, ◌-◌, ◌<◌, ◌≤◌, List, [], ◌∷◌, ◌++◌, length, sym, refl, subst, arith}
 use mathlib.Core.Option.{some}
 use lib.ListN.{get_elem?}
 use Rattle.atomic_table.proofs.Lists.{at_longer, at_last}
@@ -31,6 +31,13 @@ grows_trans a b c f g = let first = f.seen in let second = g.seen in record {
   fronts = λ j x there. g.fronts j x (f.fronts j x there);
   entries = λ j x there. g.entries j x (f.entries j x there);
 }
+
+-- entries are only added
+pub entries_same : (a b : Account) → b.entries ≡ a.entries → (j : ℕ) (x : Noted) → get_elem? a.entries j ≡ some x → get_elem? b.entries j ≡ some x
+entries_same a b same j x there = subst (λ (es : List Noted). get_elem? es j ≡ some x) (sym same) there
+
+pub entries_added : (a b : Account) (es : List Noted) → b.entries ≡ a.entries ++ es → (j : ℕ) (x : Noted) → get_elem? a.entries j ≡ some x → get_elem? b.entries j ≡ some x
+entries_added a b es same j x there = subst (λ (ns : List Noted). get_elem? ns j ≡ some x) (sym same) (at_longer a.entries es j x there)
 
 -- nothing was loaded
 pub grows_quiet : (a b : Account) → a.log.seen ≤ b.log.seen → b.loads ≡ a.loads → ((j : ℕ) (x : Noted) → get_elem? a.entries j ≡ some x → get_elem? b.entries j ≡ some x) → Grows a b
@@ -151,7 +158,7 @@ module _ (k : Shape) (a b : Account) (grown : Grows a b) where
   }
 
   pub agrees_before : (p : Parts) → Agrees k p b → Agrees k p a
-  agrees_before p agrees = let less = grown.seen in let seen = agrees.seen in record { seen = omega arith; shown = λ j x there. agrees.shown j x (grown.shown j x there); blocks = stand_before p.regions p.log.front agrees.blocks; swept = λ j x there. agrees.swept j x (grown.entries j x there) }
+  agrees_before p agrees = let less = grown.seen in let seen = agrees.seen in record { seen = omega arith; shown = λ j x there. agrees.shown j x (grown.shown j x there); blocks = stand_before p.regions p.log.front agrees.blocks; firsts = λ j l there. agrees.firsts j l (grown.codes j l there); swept = λ j x there. agrees.swept j x (grown.entries j x there) }
 
   pub board_before : (p : Parts) → MayBe k p b → MayBe k p a
   board_before p f = record { known = f.known; agrees = agrees_before p f.agrees }

@@ -87,6 +87,10 @@ pub record HasCode (a : Account) (block atom code word : ℕ) : Type 0 where
   pub code_is : load.code ≡ code
   pub found : load.word ≡ word
 
+-- a code of some row of the block was loaded
+abbrev pub KnowsRow : Account → ℕ → Type 0
+KnowsRow a block = (atom : ℕ) × (code : ℕ) × (word : ℕ) × HasCode a block atom code word
+
 -- these are the words of a block as they were loaded, the two marks excepted
 pub record HasBlock (k : Shape) (a : Account) (block : ℕ) (words : ℕ → ℕ) : Type 0 where
   pub head : KnowsHead k a block (words 0)

@@ -20,7 +20,7 @@ use Rattle.board_core.specs.Truths.{IsTrueRoom, IsTrueLog, IsTruePool, told_in}
 use Rattle.board_core.specs.declared.room.Sealed.{Sealed}
 use Rattle.board_core.specs.declared.room.Row.{Row}
 use Rattle.board_core.specs.RoomRule.{own_block, region_of, store_of, IsSealed, SealedFits}
-use Rattle.board_core.specs.MarkRule.{IsAmong, AreListed}
+use Rattle.board_core.specs.MarkRule.{IsAmong, AreListed, ShowsAt}
 use Rattle.board_core.specs.Loaded.{HasLoaded, SawMark, IsOpenMark, IsInTable, IsPage, HasEpoch, HasState, HasParted, HasOwn, IsVisit, HasStored, one_word, leaf_place, next_place, IsToPlace, IsToClaim}
 use Rattle.board_core.specs.declared.tree.Link.TheVariants.{Unread}
 use Rattle.board_core.specs.ClassTree.{Place, chained, page_room, header_of}
@@ -295,12 +295,19 @@ pub record Known (k : Shape) (p : Parts) : Type 0 where
   pub legal : IsLegal (history_of k p)
   pub blocks : KnownBlocks k p
 
--- what the words have that the account has seen, and that what its descents answered is true of them
+-- the first mark of a block is the number of the event, if any, that publishes it
+pub record FirstMark (k : Shape) (p : Parts) (block : ℕ) : Type 0 where
+  pub told : (number : ℕ) → 0 < number → number ≤ p.log.front → block_at k p.regions block shown_at ≡ number → ShowsAt p.log.front p.log.slots block number
+  pub stands : (number : ℕ) → ShowsAt p.log.front p.log.slots block number → block_at k p.regions block shown_at ≡ number
+
+-- what the words have that the account has seen: what was loaded, the first marks of the blocks of rows of which codes were loaded, and
+-- what its descents answered
 pub record Agrees (k : Shape) (p : Parts) (a : Account) : Type 0 where
   pub seen : a.log.seen ≤ p.log.front
   pub shown : Each (LoadFits k p.log) a.loads.shown
   pub blocks : BlocksStand k p.regions p.log.front a.loads
   pub swept : Each (λ n. IsTrueSwept k p n.entry) a.entries
+  pub firsts : Each (λ l. FirstMark k p l.row.block) a.loads.codes
 
 -- the words may be these: the rule allows them, and they have what the account has loaded
 pub record MayBe (k : Shape) (p : Parts) (a : Account) : Type 0 where
