@@ -3,6 +3,8 @@ pub mod NextWord
 pub mod PageWords
 pub mod Stocks
 pub mod TreeWords
+mod MetWords
+pub mod Exchanged
 pub mod News
 pub mod Gathers
 pub mod Endings

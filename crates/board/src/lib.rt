@@ -4,6 +4,8 @@
 mod blocks;
 mod close;
 mod epochs;
+mod exchange;
+mod met;
 mod notes;
 mod open;
 mod pages;
@@ -22,6 +24,8 @@ pub use epochs::{
     LAST_EPOCH, advance_epoch, clear_announcement, load_announcement, load_epoch,
     store_announcement,
 };
+pub use exchange::exchange_leaf;
+pub use met::{load_met_code, load_met_entry, load_met_head};
 pub use notes::{hear, note};
 pub use open::{OpenError, open_board};
 pub use pages::{exchange_state, load_state, store_retired};

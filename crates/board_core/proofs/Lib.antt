@@ -44,6 +44,9 @@ pub mod TreeFrame
 pub mod ChainFrame
 pub mod PageLoads
 pub mod Linked
+pub mod Split
+pub mod Places
+pub mod Planned
 pub mod LoadSealed
 pub mod Stepped
 pub mod MarkWord
@@ -87,8 +90,15 @@ pub mod LinkLeaf
 pub mod ClaimEntry
 pub mod ClaimCode
 pub mod LinkNext
+pub mod LetGo
+pub mod RowCodes
+pub mod OwnWords
+pub mod SplitTree
+pub mod ExchangeLeaf
 pub mod ClaimWord
 pub mod LoadOwnCode
+pub mod LoadMet
+pub mod Boards
 pub mod SplitNote
 pub mod SplitCaller
 pub mod JoinNote

@@ -21,8 +21,9 @@ pub record IsFullChain (w : ℕ → ℕ → ℕ) (count : ℕ) : Type 0 where
   pub next : (i : ℕ) (h : i < count) (g : i + 1 < count) → w (page i h) 1 ≡ page (i + 1) g
   pub more : (i : ℕ) (h : i < count) → i + 1 < count → w (page i h) 1 ≢ 0
 
--- and they are pages of the tree
+-- and they are pages of the tree, more than one
 pub record HasFullChain (w : ℕ → ℕ → ℕ) (s : Sheet) (count : ℕ) : Type 0 where
+  pub several : 1 < count
   pub chain : IsFullChain w count
   pub linked : (i : ℕ) (h : i < count) → IsLinked s (chain.page i h)
 

@@ -42,6 +42,10 @@ pub mod PinRule
 pub mod ChainRule
 pub mod After
 pub mod Loaded
+pub mod Split
+pub mod Plan
 pub mod Answers
 pub mod Holds
 pub mod Steps
+pub mod Met
+pub mod Boards

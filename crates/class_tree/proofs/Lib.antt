@@ -9,3 +9,7 @@ mod Entering
 mod Leaves
 mod Behind
 mod Begun
+mod Loadings
+mod Pairs
+mod Takings
+mod Reading

@@ -2,10 +2,15 @@
 //! without a lock, by single exchanges of words that are 0.
 #![tactic(auto)]
 
+mod draft;
+mod fill;
 mod find;
 mod insert;
 mod leaf;
 mod link;
+mod read;
+mod split;
+mod taken;
 mod walks;
 
 pub use board_core::Row;

@@ -1,3 +1,4 @@
+use Rattle.class_tree.proofs.Searching.{link_refused}
 use Rattle.class_tree.proofs.Chain.{goes_loader, stocked_again}
 use Rattle.class_tree.proofs.Leaves.{linked_stocked}
 use Rattle.class_tree.proofs.Behind.{link_stocked, may_load_link, led_read, may_link, link_but, link_lost}
@@ -29,3 +30,6 @@ returns-clause-led c = link_lost _ c.args.caller.now c.load_link-word.new.caller
 
 pub make_page-requires-clause-stocked : goal.make_page-requires-clause-stocked
 make_page-requires-clause-stocked c = link_stocked c.args.caller.now _ _ _ _ _ c.requires.stocked c.load_link-word.ensures.after
+
+pub returns-in-Err-clause-led : goal.returns-in-Err-clause-led
+returns-in-Err-clause-led c = link_refused _ c.args.caller.now c.load_link-word.new.caller _ _ _ _ _ _ c.load_link-word.ensures.after c.in-Err.ensures.refused

@@ -1,0 +1,17 @@
+pub mod Lists
+pub mod Swept
+pub mod Told
+pub mod Sifting
+pub mod Covers
+pub mod Gains
+pub mod Reading
+pub mod Staying
+pub mod Inner
+pub mod Chains
+pub mod Following
+pub mod Anyway
+pub mod Tried
+pub mod Descending
+pub mod Standing
+pub mod Boards
+pub mod CodeLoads
