@@ -1,0 +1,3 @@
+pub mod CodeWords
+pub mod AskedAtoms
+pub mod InGrammar
