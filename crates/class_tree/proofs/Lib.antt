@@ -13,3 +13,4 @@ mod Loadings
 mod Pairs
 mod Takings
 mod Reading
+mod Filling
