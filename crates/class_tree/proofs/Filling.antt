@@ -1,8 +1,7 @@
 -- The words of the pages that take a full leaf's place are stored.
 use Rattle.std.proofs.Common.{◌≡◌, ◌≢◌, ℕ, zero, suc, cond, ◌+◌, ◌<◌, ◌≤◌, List, [], ◌∷◌, ◌++◌, length, get_or, take, refl, sym, ap, ◌∙◌, subst, arith, inl, inr, eq-eqb, ne_eqb}
 use Rattle.std.proofs.lemmas.Bool.{cases_eq}
-use mathlib.Core.Option.{some, some-injective, some-ne-none}
-use lib.ListN.{get_elem?}
+use mathlib.Core.Option.{some-injective, some-ne-none}
 use Rattle.htss_defs.specs.declared.shape.Shape.{Shape}
 use Rattle.board_core.specs.declared.account.Account.{Account}
 use Rattle.board_core.specs.declared.pool.Own.{Own}
@@ -105,6 +104,9 @@ only_then c d e T U V h k s t = record {
   same = λ q. k.same q ∙ h.same q;
   others = λ q o word n old. k.others q (λ y. o (t q y)) word n (h.others q (λ y. o (s q y)) word n old);
 }
+
+pub only_wider : (c d : Seated) (T U : ℕ → Type 0) → StoresOnly c d T → ((q : ℕ) → T q → U q) → StoresOnly c d U
+only_wider c d T U h s = record { after = h.after; same = h.same; others = λ q o word n old. h.others q (λ y. o (s q y)) word n old }
 
 pub only_of : (b : Place) (c d : Seated) (Touched : ℕ → Type 0) → IsOf b c → StoresOnly c d Touched → IsOf b d
 only_of b c d Touched of h = subst (IsOf b) (sym h.after) record { table = of.table; shape = of.shape }

@@ -14,3 +14,5 @@ mod Pairs
 mod Takings
 mod Reading
 mod Filling
+mod Splitting
+mod Exchanging

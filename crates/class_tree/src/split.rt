@@ -74,7 +74,15 @@ pub(crate) fn split_leaf(
     };
     let (pair, code, next) = (slot.stop, target.codes[depth as usize], at.number + 1);
     let found = exchange_leaf(
-        board, caller, pair.page, pair.number, slot.index, code, at.page, at.number, pages[0],
+        board,
+        caller,
+        pair.page,
+        pair.number,
+        slot.index,
+        code,
+        at.page,
+        at.number,
+        pages[0],
         &pages[..need],
     );
     if found == at.page as u64 {
