@@ -356,8 +356,9 @@ impl<S: Sweeps> Play<(), View> for NoteSwept<S> {
     ghost use Rattle.std.specs.Prelude.{[], ◌∷◌};
     ghost use Rattle.board_core.specs.declared.entry.Entry.TheVariants.{Swept};
     ghost use Rattle.board_core.specs.Steps.{Answers};
+    ghost use Rattle.board_core.specs.Boards.{OnBoard};
 
-    ghost then = { Answers (Swept S.need S.front S.rows ∷ []) };
+    ghost then = { OnBoard (Answers (Swept S.need S.front S.rows ∷ [])) };
 }
 
 /// A note has seen what the caller has.
