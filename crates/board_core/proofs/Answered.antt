@@ -44,6 +44,7 @@ agree_all k p h vs r j u at i x there = record {
   seen = (r.log.hands j u at i x there).seen;
   shown = r.loads j u at i x there;
   blocks = r.facts.stand j u at i x there;
+  swept = λ t n here. (r.swept j u at i x there t n here).0;
   firsts = λ n l loaded. first_mark k p vs l.row.block r.marks ((r.facts.of_blocks j u at i x there).codes n l loaded).sealed;
 }
 

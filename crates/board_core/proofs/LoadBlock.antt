@@ -33,6 +33,7 @@ use Rattle.board_core.proofs.RecordFrame.{code_within}
 use Rattle.board_core.proofs.LoadSealed.{coded_sealed, AreSealed, known_sealed, known_in_table, sealed_in_table, head_is, facts_head, facts_mark, facts_fact, facts_code}
 use Rattle.board_core.proofs.Stored.{part_at}
 use Rattle.board_core.proofs.Stepped.{by_load, still}
+use Rattle.board_core.proofs.SweptFrame.{swept_here}
 use Rattle.board_core.proofs.ChainFrame.{chains_same}
 
 -- a load that no part reads but that of what was loaded of blocks
@@ -47,6 +48,7 @@ load_of_block k p h vs id v l r at same epochs states lost facts =
     (full_same k vs id v a r.full at refl refl)
     (empty_same k p.pool.states vs id v a r.empty at refl)
     (chains_same k p.pages p.pool.states vs id v a r.chains at refl refl)
+    (swept_here k p h vs id v a r at refl)
     (loads_same k p.log p.log vs id v a r.loads at (not_later p.log p.log refl refl) same)
     facts
 

@@ -4,6 +4,7 @@ use mathlib.Core.Option.{some}
 use lib.ListN.{get_elem?}
 use Rattle.htss_defs.specs.declared.shape.Shape.{Shape}
 use Rattle.board_core.specs.declared.account.Account.{Account}
+use Rattle.board_core.specs.declared.entry.Noted.{Noted}
 use Rattle.board_core.specs.declared.loads.ShownLoad.{ShownLoad}
 use Rattle.board_core.specs.declared.loads.WordLoad.{WordLoad}
 use Rattle.board_core.specs.declared.loads.StateLoad.{StateLoad}
@@ -105,6 +106,7 @@ pub record Grows (a b : Account) : Type 0 where
   pub facts : (j : ℕ) (x : WordLoad) → get_elem? a.loads.facts j ≡ some x → get_elem? b.loads.facts j ≡ some x
   pub codes : (j : ℕ) (x : CodeLoad) → get_elem? a.loads.codes j ≡ some x → get_elem? b.loads.codes j ≡ some x
   pub fronts : (j x : ℕ) → get_elem? a.loads.fronts j ≡ some x → get_elem? b.loads.fronts j ≡ some x
+  pub entries : (j : ℕ) (x : Noted) → get_elem? a.entries j ≡ some x → get_elem? b.entries j ≡ some x
 
 -- ---- pages and epochs
 

@@ -1,5 +1,5 @@
 -- A link is followed: to the page that hangs there, or to a new leaf with the row.
-use Rattle.std.proofs.Common.{◌≡◌, ◌≢◌, ℕ, zero, suc, ◌+◌, ◌*◌, ◌%◌, ◌<◌, Bool, true, false, List, [], ◌∷◌, ◌++◌, length, get_or, take, refl, sym, ap, ◌∙◌, subst, arith, take-suc, get_or-set_same}
+use Rattle.std.proofs.Common.{◌≡◌, ◌≢◌, ℕ, zero, suc, ◌+◌, ◌*◌, ◌%◌, ◌<◌, Bool, true, false, List, [], ◌∷◌, ◌++◌, length, get_or, take, refl, sym, ap, ◌∙◌, subst, arith, get_or-set_same}
 use Rattle.std.specs.Prelude.{Option, Some, Result, Ok, Err, MatchResult}
 use mathlib.Core.Logic.{dite}
 use native.Mathlib.Decide.{ℕ_discrete}
@@ -23,14 +23,15 @@ use Rattle.class_tree.specs.declared.link.Step.TheVariants.{Placed, Down}
 use Rattle.class_tree.specs.declared.insert.InsertError.{InsertError}
 use Rattle.class_tree.specs.Inserting.{IsStocked}
 use Rattle.class_tree.specs.Linking.{IsBehind, IsBehindFull, IsLed, ComesIn, GoesBelow, GoesOn, FollowsTo}
-use Rattle.class_tree.specs.Refusing.{Stops}
+use Rattle.board_core.specs.declared.room.Row.{Row}
+use Rattle.class_tree.specs.Refusing.{LacksPages, Stops}
 use Rattle.class_tree.specs.Stocked.{IsStockedBut, IsReady}
-use Rattle.class_tree.specs.Walking.{here, Rest, rest_of, AreHigh, IsFresh, IsAt, IsTarget, HasCode, IsDown, IsAtLeaf, Goes, Reads}
+use Rattle.class_tree.specs.Walking.{here, Rest, rest_of, AreHigh, IsAt, HasCode, IsDown, IsAtLeaf, Goes, Reads}
 use Rattle.class_tree.proofs.Pages.{target_kept, within}
-use Rattle.class_tree.proofs.Grown.{Grown, equal_shown, same_high, grown_link, none_link, grown_fresh, grown_high, grown_at, grown_goes, shown_goes, rest_link, lists_link, goes_on, goes_same}
+use Rattle.class_tree.proofs.Grown.{equal_shown, same_high, grown_link, none_link, grown_goes, shown_goes, rest_link, lists_link, goes_on, goes_same}
 use Rattle.class_tree.proofs.Pairs.{pair_of, pair_kept, face_of, longer_path, codes_long, behind_link}
 use Rattle.class_tree.proofs.Chain.{depth_is, stored_header, but_same}
-use Rattle.class_tree.proofs.Searching.{stops_on}
+use Rattle.class_tree.proofs.Searching.{stops_on, reads_goes, goes_less, lacks_on}
 use Rattle.class_tree.proofs.Entering.{to_place, goes_places}
 
 -- ---- at a link
@@ -52,7 +53,7 @@ zero_at k a s path rank known i c leaf b h =
       not_zero = ap (λ (x : Reached). x.zero) e ∙ h.not_zero;
     }
 
-same_at : (k : Shape) (a b : Account) (s : Stop) (path : List ℕ) (rank known : ℕ) (leaf : Bool) → b.tree.reached ≡ a.tree.reached → b.pool.announced ≡ a.pool.announced → IsAt k a s path rank leaf known → IsAt k b s path rank leaf known
+pub same_at : (k : Shape) (a b : Account) (s : Stop) (path : List ℕ) (rank known : ℕ) (leaf : Bool) → b.tree.reached ≡ a.tree.reached → b.pool.announced ≡ a.pool.announced → IsAt k a s path rank leaf known → IsAt k b s path rank leaf known
 same_at k a b s path rank known leaf e pin h =
     let f : here b s ≡ here a s = ap (λ (l : List Reached). visited l s.number) e in record {
       pinned = (let old = h.pinned in omega arith);
@@ -246,6 +247,16 @@ comes_full k c d e x s depth header t h same is one other reads full =
       above = reads_high c e s.number depth both (h.above (leaf_kind k c.account x s depth header t h is one));
       other = h.other;
     }
+
+-- after the leaf was read the walk came further
+goes_read : (c d e : Seated) (n : ℕ) → d ≡ c → Reads d e n → Goes 0 c e
+goes_read c d e n same reads = goes_less 0 n c e (omega arith) (reads_goes n c e (subst (λ (y : Seated). Reads y e n) same reads))
+
+pub comes_after : (k : Shape) (c d e f : Seated) (s next : Stop) (depth : ℕ) (t : Target) → d ≡ c → Reads d e s.number → ComesIn k e f s next depth t → ComesIn k c f s next depth t
+comes_after k c d e f s next depth t same reads h = record { goes = goes_on 0 0 c e f (omega arith) (goes_read c d e s.number same reads) h.goes; number = h.number; low = h.low; down = h.down }
+
+pub lacks_after : (k : Shape) (c d e f : Seated) (n : ℕ) (row : Row) → d ≡ c → Reads d e n → LacksPages k e f row → LacksPages k c f row
+lacks_after k c d e f n row same reads l = lacks_on k 0 c e f row (goes_read c d e n same reads) l
 
 -- ---- down a level
 

@@ -274,6 +274,9 @@ pub more_pool : (a : Account) (j n : ℕ) → (after_more a j n).pool ≡ a.pool
 more_pool a j zero = refl
 more_pool a j (suc n) = refl
 
+pub more_stocked : (c d : Seated) (j n : ℕ) → IsStocked c → d ≡ with_account c (after_more c.account j n) → IsStocked d
+more_stocked c d j n s load = subst IsStocked (sym load) (subst (λ (p : PoolAccount). IsStocked (with_account c (record (after_more c.account j n) { pool = p }))) (sym (more_pool c.account j n)) record { own = s.own; size = s.size; clean = s.clean })
+
 pub won_stocked : (k : Shape) (d e f : Seated) (s : Stop) (page header first : ℕ) → IsReady k d e page header first → f ≡ with_account e (after_more (after_inner e.account page) s.number page) → IsStocked f
 won_stocked k d e f s page header first ready link = stocked_without e f page ready.but (ap (λ (x : Seated). x.stock) link)
     (ap (λ (x : Seated). x.account.pool.own) link ∙ ap (λ (p : PoolAccount). p.own) (more_pool (after_inner e.account page) s.number page))

@@ -13,3 +13,6 @@ mod Loadings
 mod Pairs
 mod Takings
 mod Reading
+mod Filling
+mod Splitting
+mod Exchanging

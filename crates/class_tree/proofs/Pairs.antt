@@ -1,11 +1,10 @@
 -- A pair of an inner page, of which a walk follows the link.
 use Rattle.std.proofs.Common.{◌≡◌, ◌≢◌, ℕ, zero, suc, ◌+◌, ◌<◌, ◌≤◌, Bool, true, false, List, [], ◌∷◌, ◌++◌, length, get_or, set, take, refl, sym, ap, ◌∙◌, subst, arith, take-suc, get_or-set_same, length-set}
 use lib.ListN.{get_elem?}
-use mathlib.Core.Option.{some}
 use Rattle.htss_defs.specs.declared.shape.Shape.{Shape}
 use Rattle.board_core.specs.declared.account.Account.{Account}
 use Rattle.board_core.specs.declared.tree.Link.{Link}
-use Rattle.board_core.specs.declared.tree.Link.TheVariants.{Unread, To}
+use Rattle.board_core.specs.declared.tree.Link.TheVariants.{To}
 use Rattle.board_core.specs.declared.tree.Reached.{Reached}
 use Rattle.board_core.specs.Loaded.{IsPage}
 use Rattle.board_core.specs.Steps.{MayLoadLink}
@@ -14,7 +13,7 @@ use Rattle.class_tree.specs.declared.walks.Stop.{Stop}
 use Rattle.class_tree.specs.declared.walks.Slot.{Slot}
 use Rattle.class_tree.specs.declared.walks.Target.{Target}
 use Rattle.class_tree.specs.Linking.{IsPair}
-use Rattle.class_tree.specs.Walking.{here, Rest, rest_of, AreHigh, IsFresh, IsAt, IsTarget, HasCode}
+use Rattle.class_tree.specs.Walking.{here, Rest, AreHigh, IsFresh, IsAt, IsTarget, HasCode}
 use Rattle.class_tree.proofs.Pages.{target_kept, within, visited_before}
 use Rattle.class_tree.proofs.Grown.{Grown, grown_link, grown_fresh, grown_high, grown_at, rest_link}
 use Rattle.class_tree.proofs.Chain.{depth_is}

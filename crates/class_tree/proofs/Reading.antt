@@ -1,14 +1,12 @@
 -- What a split reads of a full leaf.
-use Rattle.std.proofs.Common.{◌≡◌, ◌≢◌, ℕ, ◌+◌, ◌<◌, true, List, [], ◌∷◌, ◌++◌, length, get_or, set, refl, sym, ap, ◌∙◌, subst, arith, get_or-set_same, get_or-set_other, inl, inr}
+use Rattle.std.proofs.Common.{◌≡◌, ◌≢◌, ℕ, ◌+◌, ◌<◌, List, [], ◌∷◌, length, get_or, set, refl, sym, ap, ◌∙◌, subst, arith, get_or-set_same, get_or-set_other, inl, inr}
 use Rattle.std.proofs.lemmas.Bool.{cases_eq}
-use mathlib.Core.Option.{some}
-use lib.ListN.{get_elem?}
 use Rattle.htss_defs.specs.declared.shape.Shape.{Shape}
 use Rattle.board_core.specs.declared.account.Account.{Account}
 use Rattle.board_core.specs.declared.tree.Reached.{Reached}
 use Rattle.board_core.specs.Rows.{block_named, atom_named}
 use Rattle.board_core.specs.Loaded.{HasCode}
-use Rattle.board_core.specs.Met.{row_named, HasMet, HasHead, MayLoadMet}
+use Rattle.board_core.specs.Met.{row_named, HasMet, MayLoadMet}
 use Rattle.board_core.specs.After.{after_head, after_code}
 use Rattle.board_core.proofs.Lists.{at_longer}
 use Rattle.board_core.proofs.LoadMet.{head_here, code_here}
@@ -25,6 +23,10 @@ may_load_met c d j i n head code met e few = subst (λ (x : Seated). MayLoadMet 
   first = head_here c.account (block_named n) head;
   few = few;
 }
+
+-- the entry's load changed nothing
+pub after_same : (c d e : Seated) (block head : ℕ) → d ≡ c → e ≡ with_account d (after_head d.account block head) → e ≡ with_account c (after_head c.account block head)
+after_same c d e block head same after = after ∙ ap (λ (x : Seated). with_account x (after_head x.account block head)) same
 
 -- ---- one row
 
@@ -84,7 +86,7 @@ full_still k a b s depth e h = subst (λ (l : List Reached). IsAtFull k (record 
   full = h.full;
 }
 
-code_still : (a b : Account) (block atom code word : ℕ) → LoadsOn a b → HasCode a block atom code word → HasCode b block atom code word
+pub code_still : (a b : Account) (block atom code word : ℕ) → LoadsOn a b → HasCode a block atom code word → HasCode b block atom code word
 code_still a b block atom code word g h = record { load = h.load; index = h.index; loaded = g.codes h.index h.load h.loaded; row = h.row; code_is = h.code_is; found = h.found }
 
 pub row_still : (a b : Account) (s : Stop) (i n c : ℕ) → b.tree.reached ≡ a.tree.reached → LoadsOn a b → IsRowOf a (here a s) i n c → IsRowOf b (here b s) i n c

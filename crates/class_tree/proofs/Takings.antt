@@ -1,17 +1,14 @@
 -- Pages taken one after the other, and kept again.
-use Rattle.std.proofs.Common.{◌≡◌, ◌≢◌, ℕ, ◌+◌, ◌-◌, ◌<◌, ◌≤◌, ◌⊎◌, List, [], ◌∷◌, ◌++◌, length, get_or, set, refl, sym, ap, ◌∙◌, subst, arith, inl, inr, ⊎_elim, length-append, length-set, get_or-set_same, get_or-set_other}
+use Rattle.std.proofs.Common.{◌≡◌, ◌≢◌, ℕ, ◌+◌, ◌<◌, List, [], ◌∷◌, ◌++◌, length, get_or, set, refl, sym, ap, ◌∙◌, subst, arith, inl, inr, ⊎_elim, length-append, get_or-set_same, get_or-set_other}
 use Rattle.std.proofs.lemmas.Bool.{cases_eq}
-use mathlib.Core.Option.{some, some-injective, some-ne-none}
+use mathlib.Core.Option.{some, some-ne-none}
 use lib.ListN.{get_elem?}
 use Rattle.htss_defs.specs.declared.shape.Shape.{Shape}
-use Rattle.board_core.specs.declared.account.Account.{Account}
-use Rattle.board_core.specs.declared.pool.Own.{Own}
-use Rattle.board_core.specs.declared.tree.Reached.{Reached}
 use Rattle.board_core.specs.Sheets.{owns}
 use Rattle.board_core.specs.MarkRule.{IsAmong}
 use Rattle.board_core.specs.Loaded.{IsPage, HasOwn}
 use Rattle.board_core.proofs.Lists.{at_end, at_longer, at_last}
-use Rattle.board.specs.Seated.{Place, Seated, IsOf, with_stock}
+use Rattle.board.specs.Seated.{Seated, with_stock}
 use Rattle.page_pool.specs.Taking.{HasFound, IsGiven, IsRefused}
 use Rattle.page_pool.proofs.Giving.{found_stock}
 use Rattle.page_pool.proofs.Passing.{scanned_own}
@@ -19,7 +16,7 @@ use Rattle.class_tree.specs.Inserting.{IsStocked}
 use Rattle.class_tree.specs.Refusing.{WasRefused}
 use Rattle.class_tree.specs.Splitting.{AreTaken, TakesAll}
 use Rattle.class_tree.specs.Loading.{LoadsOn}
-use Rattle.class_tree.specs.Walking.{Goes, rest_of}
+use Rattle.class_tree.specs.Walking.{rest_of}
 use Rattle.class_tree.proofs.Grown.{goes_same, goes_on}
 use Rattle.class_tree.proofs.Searching.{refused_on}
 use Rattle.class_tree.proofs.Taking.{given_takes, given_goes, given_reached, was_refused, refused_reached, refused_clean}
@@ -129,10 +126,14 @@ keep_one c d pages n m taken e kept = subst (λ (x : Seated). AreTaken x pages m
         | inr y ↦ let l : h.0 < n = h.1 in inr (h.0, omega arith, h.2)
       ])
       (taken.own q mine);
-  mine = λ t l. let (page, mine, out) = taken.mine t (omega arith) in (page, mine, λ among. let (i, there) = among in ⊎_elim
-      (λ (old : get_elem? c.stock i ≡ some (get_or pages t 0)). out (i, old))
-      (λ (new : (i ≡ length c.stock) × (get_or pages m 0 ≡ get_or pages t 0)). let same : m ≡ t = taken.apart m t (omega arith) (omega arith) new.1 in omega arith)
-      (at_end c.stock (get_or pages m 0) (get_or pages t 0) i there));
+  mine = λ t l. let (page, mine, out) = taken.mine t (omega arith) in (
+    page,
+    mine,
+    λ among. let (i, there) = among in ⊎_elim
+        (λ (old : get_elem? c.stock i ≡ some (get_or pages t 0)). out (i, old))
+        (λ (new : (i ≡ length c.stock) × (get_or pages m 0 ≡ get_or pages t 0)). let same : m ≡ t = taken.apart m t (omega arith) (omega arith) new.1 in omega arith)
+        (at_end c.stock (get_or pages m 0) (get_or pages t 0) i there),
+  );
   apart = λ t u l o. taken.apart t u (omega arith) (omega arith);
   size = (let longer = length-append c.stock (get_or pages m 0 ∷ []) in let size = taken.size in omega arith);
   clean = taken.clean;

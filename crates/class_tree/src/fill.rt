@@ -34,13 +34,7 @@ fn fill_page(
 }
 
 // Stores the words of all pages.
-pub(crate) fn fill(
-    board: &Board,
-    caller: &mut Caller,
-    groups: &Groups,
-    depth: u8,
-    pages: &[u32],
-)
+pub(crate) fn fill(board: &Board, caller: &mut Caller, groups: &Groups, depth: u8, pages: &[u32])
     requires fits { IsOf board.now caller.old }
     requires few { groups.now.count ≤ 14 }
     requires depth { depth < 5 }

@@ -2,7 +2,6 @@
 //! without a lock, by single exchanges of words that are 0.
 #![tactic(auto)]
 
-mod draft;
 mod fill;
 mod find;
 mod insert;

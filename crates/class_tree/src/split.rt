@@ -11,10 +11,9 @@ use crate::fill::fill;
 use crate::read::load_nexts;
 use crate::taken::{keep_all, take_all};
 use crate::walks::{Slot, Stop, Target, stop_at};
-use board::{Board, Caller};
-use crate::draft::{exchange_leaf, retire};
+use board::{Board, Caller, exchange_leaf};
 use leaf_split::group;
-use page_pool::NoPage;
+use page_pool::{NoPage, retire};
 
 // Makes the pages that may take the place of the full leaf here, which hangs at this link, and says how many they are.
 fn make_pages(
@@ -75,7 +74,15 @@ pub(crate) fn split_leaf(
     };
     let (pair, code, next) = (slot.stop, target.codes[depth as usize], at.number + 1);
     let found = exchange_leaf(
-        board, caller, pair.page, pair.number, slot.index, code, at.page, at.number, pages[0],
+        board,
+        caller,
+        pair.page,
+        pair.number,
+        slot.index,
+        code,
+        at.page,
+        at.number,
+        pages[0],
         &pages[..need],
     );
     if found == at.page as u64 {

@@ -1,5 +1,5 @@
 -- A board that has the caller: what the rule says of the pages that it reached, and of the codes that it loaded.
-use Rattle.std.proofs.Common.{◌≡◌, ℕ, zero, suc, ◌+◌, ◌-◌, ◌*◌, ◌^◌, ◌<◌, ◌≤◌, List, [], ◌∷◌, length, map, sym, refl, ap, ◌∙◌, subst, arith}
+use Rattle.std.proofs.Common.{◌≡◌, ℕ, zero, suc, ◌^◌, ◌<◌, List, [], ◌∷◌, map, sym, refl, ap, ◌∙◌, subst, arith}
 use mathlib.Core.Option.{some, some-injective, some-ne-none}
 use lib.ListN.{get_elem?}
 use Rattle.htss_defs.specs.declared.shape.Shape.{Shape}
@@ -9,19 +9,17 @@ use Rattle.board_core.specs.declared.loads.CodeLoad.{CodeLoad as BoardLoad}
 use Rattle.board_core.specs.declared.tree.Reached.{Reached}
 use Rattle.board_core.specs.Each.{Each}
 use Rattle.board_core.specs.Words.{Parts}
-use Rattle.board_core.specs.Blocks.{atoms_in}
 use Rattle.board_core.specs.Histories.{block_at}
-use Rattle.board_core.specs.Records.{code_word_at}
 use Rattle.board_core.specs.FactRule.{BlocksStand, AreOfBlocks}
 use Rattle.board_core.specs.Sheets.{sheet_of}
 use Rattle.board_core.specs.KnownPages.{KnowsPages}
 use Rattle.board_core.specs.KnownRule.{Knows}
 use Rattle.board_core.specs.OldRows.{IsOldRow}
-use Rattle.board_core.specs.Rows.{entry_word, block_named, atom_named, code_of, codes_of, codes_in, IsPlaced}
+use Rattle.board_core.specs.Rows.{entry_word, code_of, codes_of, codes_in, IsPlaced}
 use Rattle.board_core.specs.Boards.{HasBoard, SomeBoard}
 use Rattle.board_core.proofs.Everyone.{mine}
 use Rattle.board_core.proofs.RowFrame.{block_back, atom_back, small_atom}
-use Rattle.descent.specs.Seats.{CodeLoad, load_of, seat_of}
+use Rattle.descent.specs.Seats.{load_of, seat_of}
 use Rattle.descent.specs.Moment.{Moment, SomeMoment}
 use Rattle.descent.specs.Walks.{IsTold}
 use Rattle.descent.specs.Descended.{MayBe}

@@ -94,7 +94,7 @@ module _ (chain : ℕ) (covers : ℕ → ℕ → Type 0) (rs : List Reached) (mo
       let one = one_code y.path q cx.0 cy.0 (below_trans (y.path ++ cx.0 ∷ []) k.path q on_y bk) (below_trans (y.path ++ cy.0 ∷ []) l.path q cy.3 bl) in
       let same = (codes_apart chain mo.0 (IsPlaced mo.1) (λ r. ⊥) rs mo.2 x y hx hy ex ey path cx.1.0 cy.1.0 cy.0 (subst (λ (c : ℕ). get_elem? x.slots cx.1.0 ≡ some c) one cx.1.1) cy.1.1).0 in absurd (omega arith)
 
-comes_below : (covers : ℕ → ℕ → Type 0) (leaf : Bool) (x : Reached) (k : Met) → Comes covers leaf x k → Below covers leaf x.path k
+pub comes_below : (covers : ℕ → ℕ → Type 0) (leaf : Bool) (x : Reached) (k : Met) → Comes covers leaf x k → Below covers leaf x.path k
 comes_below covers true x k c = ([], c.0 ∙ sym (append-nil x.path))
 comes_below covers false x k c = (c.0, c.2, c.3)
 

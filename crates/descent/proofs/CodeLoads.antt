@@ -1,16 +1,14 @@
 -- The loop over a row's codes, as the loads of a board tell it.
-use Rattle.std.proofs.Common.{◌≡◌, ℕ, ◌+◌, ◌<◌, false, sym, ap, ◌∙◌, subst}
+use Rattle.std.proofs.Common.{◌≡◌, ℕ, sym, ap, ◌∙◌, subst}
 use Rattle.board_core.specs.Rows.{block_named}
-use Rattle.board_core.specs.Met.{row_named, HasMet, HasHead, MayLoadMet}
+use Rattle.board_core.specs.Met.{row_named, HasHead}
 use Rattle.board_core.specs.After.{after_head, after_code}
 use Rattle.board_core.proofs.LoadMet.{head_here, head_stays}
 use Rattle.board.specs.Seated.{Seated, with_account}
-use Rattle.board_core.specs.declared.tree.Reached.{Reached}
-use Rattle.descent.specs.Seats.{Seat, seat_of, with_load}
-use Rattle.descent.specs.Walks.{Sifts}
+use Rattle.descent.specs.Seats.{seat_of, with_load}
 use Rattle.descent.specs.Standing.{OnlyLoads}
-use Rattle.descent.proofs.Sifting.{Sifting, sifting_none, sifting_more, sifted_bad}
-use Rattle.descent.proofs.Standing.{only_head, only_code, only_on, code_seat}
+use Rattle.descent.proofs.Sifting.{Sifting, sifting_none}
+use Rattle.descent.proofs.Standing.{only_code, only_on, code_seat}
 
 -- the first word of the block was loaded
 pub start_sifting : (covers : ℕ → ℕ → Type 0) (row head : ℕ) (c d : Seated) → d ≡ with_account c (after_head c.account (block_named row) head) → Sifting covers row (seat_of c.account) (seat_of d.account) 0

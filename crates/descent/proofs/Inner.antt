@@ -186,7 +186,7 @@ module _ (chain : ℕ) (covers : ℕ → ℕ → Type 0) (n page depth : ℕ) (a
         many1 : length (visited c.reached n).links ≡ place + 1
         many1 = let e = ap length links1 in let s = length_snoc (visited b.reached n).links Unread in let size = r.as_many in omega arith
 
-        there1 : get_elem? (visited c.reached n).slots place ≡ some code
+        pub there1 : get_elem? (visited c.reached n).slots place ≡ some code
         there1 = (λ k. get_elem? (slots1 k) (sym r.size k)) ∙ at_last (visited b.reached n).slots code
 
         unread1 : get_elem? (visited c.reached n).links place ≡ some Unread

@@ -15,3 +15,5 @@ pub mod Descending
 pub mod Standing
 pub mod Boards
 pub mod CodeLoads
+pub mod Full
+pub mod Whole

@@ -165,6 +165,11 @@ module _ {A : Type 0} where
   set_here (y ∷ xs) zero x h = refl
   set_here (y ∷ xs) (suc i) x h = set_here xs i x (omega arith)
 
+  pub set_again : (xs : List A) (i : ℕ) (x : A) → get_elem? xs i ≡ some x → set xs i x ≡ xs
+  set_again [] i x e = refl
+  set_again (y ∷ xs) zero x e = λ k. sym (some-injective y x e) k ∷ xs
+  set_again (y ∷ xs) (suc i) x e = λ k. y ∷ set_again xs i x e k
+
   pub set_else : (xs : List A) (i j : ℕ) (x : A) → j ≢ i → get_elem? (set xs i x) j ≡ get_elem? xs j
   set_else [] i j x other = refl
   set_else (y ∷ xs) zero zero x other = absurd (other refl)

@@ -1,16 +1,14 @@
 -- What the steps of a descent leave of its caller.
 use Rattle.std.proofs.Common.{◌≡◌, ℕ, zero, suc, ◌<◌, Bool, List, [], ◌∷◌, ◌++◌, ◌+◌, ◌*◌, ◌^◌, ◌/◌, ◌%◌, length, map, sym, refl, ap, ◌∙◌, subst, append_assoc, arith}
 use Rattle.std.proofs.lemmas.List.{append-nil}
-use Rattle.htss_defs.specs.declared.shape.Shape.{Shape}
 use Rattle.board_core.specs.declared.account.Account.{Account}
 use Rattle.board_core.specs.declared.loads.CodeLoad.{CodeLoad as BoardLoad}
-use Rattle.board_core.specs.declared.loads.WordLoad.{WordLoad}
 use Rattle.board_core.specs.declared.room.Row.{Row}
-use Rattle.board_core.specs.Rows.{entry_word, block_named, atom_named}
+use Rattle.board_core.specs.Rows.{entry_word}
 use Rattle.board_core.specs.Met.{row_named}
 use Rattle.board_core.specs.After.{after_slot, after_link, after_more, after_head, after_code}
 use Rattle.board.specs.Seated.{Place, Seated, IsOf, with_account}
-use Rattle.descent.specs.Seats.{CodeLoad, Seat, load, load_of, seat_of, with_load}
+use Rattle.descent.specs.Seats.{load, load_of, seat_of, with_load}
 use Rattle.descent.specs.Standing.{Stands, rest, OnlyLoads}
 
 pub only_same : (c : Seated) → OnlyLoads c c

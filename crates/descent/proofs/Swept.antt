@@ -1,13 +1,12 @@
 -- A descent that is done has read each old row whose codes all cover.
-use Rattle.std.proofs.Common.{◌≡◌, ◌≢◌, ℕ, zero, suc, ◌+◌, ◌-◌, ◌<◌, ◌≤◌, ◌⊎◌, Bool, true, false, List, [], ◌∷◌, ◌++◌, length, sym, refl, ap, ◌∙◌, subst, arith, inl, inr, ⊎_elim, append_assoc, length-append}
+use Rattle.std.proofs.Common.{◌≡◌, ℕ, zero, suc, ◌+◌, ◌<◌, Bool, true, false, List, [], ◌∷◌, ◌++◌, length, sym, refl, ap, ◌∙◌, subst, arith, ⊎_elim, append_assoc, length-append}
 use mathlib.Core.Option.{some}
 use lib.ListN.{get_elem?}
-use Rattle.board_core.specs.declared.tree.Link.TheVariants.{Unread, Absent, To}
+use Rattle.board_core.specs.declared.tree.Link.TheVariants.{Absent}
 use Rattle.board_core.specs.declared.tree.Reached.{Reached}
-use Rattle.board_core.specs.Sheets.{Sheet, IsLinked}
-use Rattle.board_core.specs.Each.{In}
-use Rattle.board_core.specs.ClassTree.{Place, IsBelow, PageStands, Tree}
-use Rattle.board_core.specs.KnownPages.{place_of, IsEnd, IsMate, EndTells, IsRead, KnowsPages}
+use Rattle.board_core.specs.Sheets.{Sheet}
+use Rattle.board_core.specs.ClassTree.{Place, Tree}
+use Rattle.board_core.specs.KnownPages.{IsEnd, EndTells, IsRead, KnowsPages}
 use Rattle.descent.specs.Sweep.{AllCover, IsWhole, IsSwept}
 
 non_empty : (xs : List ℕ) → 0 < length xs → (c : ℕ) × (rest : List ℕ) × (xs ≡ c ∷ rest)

@@ -1,8 +1,8 @@
 -- A descent that is done: each page that it reached was read to its end, and each code that covers was followed.
-use Rattle.std.specs.Prelude.{◌≡◌, ◌≢◌, ℕ, ◌+◌, ◌<◌, ◌≤◌, ◌⊎◌, Bool, true, false, List, [], ◌∷◌, ◌++◌, length}
+use Rattle.std.specs.Prelude.{◌≡◌, ℕ, ◌+◌, ◌⊎◌, Bool, false, List, [], ◌∷◌, ◌++◌, length}
 use mathlib.Core.Option.{some}
 use lib.ListN.{get_elem?}
-use Rattle.board_core.specs.declared.tree.Link.TheVariants.{Unread, Absent, To}
+use Rattle.board_core.specs.declared.tree.Link.TheVariants.{Absent}
 use Rattle.board_core.specs.declared.tree.Reached.{Reached}
 use Rattle.board_core.specs.Each.{In}
 use Rattle.board_core.specs.KnownPages.{IsEnd, IsMate}

@@ -358,7 +358,6 @@ module _ (W : ℕ → ℕ → ℕ) (v : ℕ → Place) (codes : ℕ → List ℕ
     old = read.old;
     low = read.low;
     full = read.full;
-    numbered = λ p n. let a = new.all p n in subst (λ (q : ℕ). (q ≢ 0) × (q ≢ 1)) a.2 (new.numbered a.0 a.1);
     head = let l : 7 * 0 < count = some_code in
         (new_inner 0 l, ap (λ (Q : Place). Q.from) (places.inner 0 l), ap (λ (Q : Place). Q.way) (places.inner 0 l), ap (λ (Q : Place). Q.path) (places.inner 0 l), ap (λ (Q : Place). Q.rank) (places.inner 0 l));
     inner_first = let l : 7 * 0 < count = some_code in ap (λ (Q : Place). Q.leaf) (places.inner 0 l);

@@ -1,6 +1,6 @@
 -- The pages that take a full leaf's place. Page 8b is the inner page of rank b; the leaves of its seven codes are the pages behind it
 -- (this project's own).
-use Rattle.std.specs.Prelude.{◌≡◌, ◌≢◌, ℕ, zero, suc, ◌+◌, ◌*◌, ◌-◌, ◌/◌, ◌%◌, ◌<◌, ◌≤◌, ◌==◌, true, false, ltb, List, [], ◌∷◌, ◌++◌, length, if◌then◌else◌}
+use Rattle.std.specs.Prelude.{◌≡◌, ℕ, zero, suc, ◌+◌, ◌*◌, ◌-◌, ◌/◌, ◌%◌, ◌<◌, ◌≤◌, ◌==◌, true, false, ltb, List, [], ◌∷◌, ◌++◌, length, if◌then◌else◌}
 use mathlib.Core.Option.{some}
 use lib.ListN.{get_elem?}
 use Rattle.board_core.specs.declared.tree.Way.TheVariants.{More, Branch}
@@ -55,12 +55,11 @@ pub record ArePlaces (v : ℕ → Place) (path : List ℕ) (count : ℕ) (code n
   pub inner : (b : ℕ) → 7 * b < count → v (number (8 * b)) ≡ inner_place path number q k b
   pub leaf : (b s : ℕ) → s < 7 → 7 * b + s < count → v (number (8 * b + 1 + s)) ≡ leaf_place path code number b s
 
--- the new pages: own pages that differ, none of them the root
+-- the new pages: own pages that differ
 pub record AreNew (New : ℕ → Type 0) (pages : ℕ) (number : ℕ → ℕ) : Type 0 where
   pub new : (t : ℕ) → t < pages → New (number t)
   pub all : (q : ℕ) → New q → (t : ℕ) × (t < pages) × (number t ≡ q)
   pub apart : (t u : ℕ) → t < pages → u < pages → number t ≡ number u → t ≡ u
-  pub numbered : (t : ℕ) → t < pages → (number t ≢ 0) × (number t ≢ 1)
 
 -- what was read: the inner page y, and the full leaf x with these rows, each with its next code
 pub record IsFullRead (codes : ℕ → List ℕ) (rs : List Reached) (y x : Reached) (k : ℕ) (row next : ℕ → ℕ) : Type 0 where

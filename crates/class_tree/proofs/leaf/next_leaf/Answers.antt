@@ -1,7 +1,10 @@
 use Rattle.class_tree.proofs.Searching.{more_refused}
-use Rattle.class_tree.proofs.Chain.{goes_loader, lost_but, stocked_again}
+use Rattle.class_tree.proofs.Chain.{goes_loader, lost_but, stocked_again, more_stocked}
 use Rattle.class_tree.proofs.Leaves.{leaf_read, may_link_leaf, linked_stocked, leaf_lost}
 use Rattle.class_tree.proofs.leaf.next_leaf.Goals as goal
+
+pub make_page-requires-clause-stocked : goal.make_page-requires-clause-stocked
+make_page-requires-clause-stocked c = more_stocked c.args.caller.now _ _ _ c.requires.stocked c.load_more-word.ensures.after
 
 pub returns-then-word-ne0-clause-next : goal.returns-then-word-ne0-clause-next
 returns-then-word-ne0-clause-next c = leaf_read _ c.args.caller.now _ _ _ _ _ _ _ c.requires.leaf c.load_more-word.ensures.after c.if-word-ne0.true (c.load_more-word.ensures.page c.if-word-ne0.true) c.stop_at.ensures

@@ -1,5 +1,4 @@
-use Rattle.std.proofs.Common.{◌≡◌, arith, sym, ap, ◌∙◌, length-set}
-use Rattle.htss_defs.specs.declared.shape.Shape.{Shape}
+use Rattle.std.proofs.Common.{arith, sym, ◌∙◌, length-set}
 use Rattle.class_tree.proofs.Takings.{none_more, all_refused, all_refused_reached, takes_more}
 use Rattle.class_tree.proofs.taken.take_all.Goals as goal
 

@@ -2,18 +2,24 @@ use Rattle.std.proofs.Common.{rules, ◌≡◌, ◌+◌, ◌%◌, ◌<◌, true,
 use Rattle.board_core.specs.KnownPages.{place_of}
 use Rattle.board.specs.Seated.{Seated}
 use Rattle.descent.specs.Seats.{Seat, seat_of}
+use mathlib.Core.Option.{some}
+use lib.ListN.{get_elem?}
+use Rattle.board_core.specs.Boards.{SomeBoard}
+use Rattle.descent.specs.Standing.{Stands}
 use Rattle.descent.proofs.Boards.{some_moment}
+use Rattle.descent.proofs.Standing.{only_same, only_on, stands_on}
+use Rattle.descent.proofs.Full.{chain_full, follow_full, slot_pages}
 use Rattle.descent.specs.Visits.{visited}
 use Rattle.descent.specs.Walks.{PageTried, ChainTried, FollowTried, IsBegun, ChainRead, Followed, LeafAt}
 use Rattle.descent.proofs.Chains.{chain_start, chain_page, chain_zero, chain_low, chain_last, next_rank, chain_next}
 use Rattle.descent.proofs.Following.{count_fits, header_kind, follow_none, follow_begun, follow_shallow, follow_some, follow_tried, ok_map}
-use Rattle.descent.proofs.Inner.{inner_start, inner_zero, inner_leaf_at, inner_pass, inner_more, inner_tried, inner_full}
+use Rattle.descent.proofs.Inner.{there1, inner_start, inner_zero, inner_leaf_at, inner_pass, inner_more, inner_tried, inner_full}
 use Rattle.descent.proofs.Tried.{err_any, err_map, chain_tried}
 use Rattle.descent.proofs.walk.+walk.Goals.{inner_page-then-covers_code+in_ok-rows, inner_page-else-covers_code}
 use Rattle.descent.proofs.walk.+walk.Goals as goal
 
 pub chain-chain-init : goal.chain-chain-init
-chain-chain-init g t c = chain_start c.args.board.now.shape.chain (g.N.Asks.covers c.args.need.now) c.args.first.number c.args.leaf c.args.depth (seat_of c.args.caller.now.account) (g.S.RowSink.given c.args.sink.now) c.args.first.page c.requires.at
+chain-chain-init g t c = record { page = c.requires.page; stands = c.requires.stands; only = only_same c.args.caller.now; chaining = chain_start c.args.board.now.shape.chain (g.N.Asks.covers c.args.need.now) c.args.first.number c.args.leaf c.args.depth (seat_of c.args.caller.now.account) (g.S.RowSink.given c.args.sink.now) c.args.first.page c.requires.at }
 
 pub chain-overflow_add-rows : goal.chain-overflow_add-rows
 chain-overflow_add-rows g t c =
@@ -62,7 +68,7 @@ chain-chain-preserved g t c =
     let paged = chain_page c.args.board.now.shape.chain (g.N.Asks.covers c.args.need.now) c.args.first.number c.args.leaf c.args.depth (seat_of c.args.caller.now.account) (g.S.RowSink.given c.args.sink.now)
     (seat_of c.chain.caller.account) (g.S.RowSink.given c.chain.sink) c.chain.at.number c.chain.at.page c.chain.rows c.chain.invariant.chaining c.requires.at.inside
     (seat_of c.page.new.caller.account) (g.S.RowSink.given c.page.new.sink) c.in_ok-part.part.rows c.in_ok-part.part.ended c.in_ok-part.ensures.ok in
-    chain_next c.args.board.now.shape.chain (g.N.Asks.covers c.args.need.now) c.args.first.number c.args.leaf c.args.depth (seat_of c.args.caller.now.account) (g.S.RowSink.given c.args.sink.now) (seat_of c.page.new.caller.account) (g.S.RowSink.given c.page.new.sink) c.chain.at.number c.chain.at.page (c.chain.rows + c.in_ok-part.part.rows) c.in_ok-part.part.ended paged c.if-part.false (seat_of c.more.new.caller.account) (some_moment c.args.board.now.shape c.more.new.caller.account c.in-Some.ensures.board) c.in-Some.next c.in-Some.ensures.after (λ is_leaf low. let clash : false ≡ true = c.if-stands_alone.ensures.1 (is_leaf, low) in cc)
+    record { page = c.in-Some.ensures.page; stands = c.in-Some.ensures.stands; only = only_on c.args.caller.now c.page.new.caller c.more.new.caller (only_on c.args.caller.now c.chain.caller c.page.new.caller c.chain.invariant.only c.in_ok-part.ensures.only) c.in-Some.ensures.only; chaining = chain_next c.args.board.now.shape.chain (g.N.Asks.covers c.args.need.now) c.args.first.number c.args.leaf c.args.depth (seat_of c.args.caller.now.account) (g.S.RowSink.given c.args.sink.now) (seat_of c.page.new.caller.account) (g.S.RowSink.given c.page.new.sink) c.chain.at.number c.chain.at.page (c.chain.rows + c.in_ok-part.part.rows) c.in_ok-part.part.ended paged c.if-part.false (seat_of c.more.new.caller.account) (some_moment c.args.board.now.shape c.more.new.caller.account c.in-Some.ensures.board) c.in-Some.next c.in-Some.ensures.after (λ is_leaf low. let clash : false ≡ true = c.if-stands_alone.ensures.1 (is_leaf, low) in cc) }
 
 pub follow-chain-requires : goal.follow-chain-requires
 follow-chain-requires g t c =
@@ -86,7 +92,7 @@ follow-returns-in-Some-clause-ok g t c = ok_map c.chain.result
     c.chain.ensures.ok
 
 pub inner_page-loop-index-init : goal.inner_page-loop-index-init
-inner_page-loop-index-init g t c = inner_start c.args.board.now.shape.chain (g.N.Asks.covers c.args.need.now) c.args.at.number c.args.at.page c.args.depth (seat_of c.args.caller.now.account) (g.S.RowSink.given c.args.sink.now) c.requires.at
+inner_page-loop-index-init g t c = record { stands = c.requires.stands; only = only_same c.args.caller.now; reading = inner_start c.args.board.now.shape.chain (g.N.Asks.covers c.args.need.now) c.args.at.number c.args.at.page c.args.depth (seat_of c.args.caller.now.account) (g.S.RowSink.given c.args.sink.now) c.requires.at }
 
 pub inner_page-returns-then-code-eq0-clause-ok : goal.inner_page-returns-then-code-eq0-clause-ok
 inner_page-returns-then-code-eq0-clause-ok g t c = inner_zero c.args.board.now.shape.chain (g.N.Asks.covers c.args.need.now) c.args.at.number c.args.at.page c.args.depth (seat_of c.args.caller.now.account) (g.S.RowSink.given c.args.sink.now) c.requires.at
@@ -98,6 +104,13 @@ inner_page-follow-requires g t c =
     let at : LeafAt (g.N.Asks.covers c.args.need.now) (seat_of c.slot-code.new.caller.account).reached c.args.at.number c.args.at.page c.loop-index.index c.args.depth = inner_leaf_at c.args.board.now.shape.chain (g.N.Asks.covers c.args.need.now) c.args.at.number c.args.at.page c.args.depth (seat_of c.args.caller.now.account) (g.S.RowSink.given c.args.sink.now) c.requires.at
     (seat_of c.loop-index.caller.account) (g.S.RowSink.given c.loop-index.sink) c.loop-index.index c.loop-index.rows c.loop-index.invariant.reading
     (seat_of c.slot-code.new.caller.account) c.slot-code.result c.slot-code.ensures.after (some_moment c.args.board.now.shape c.slot-code.new.caller.account c.slot-code.ensures.board) c.loop-index-test.true c.if-code-eq0.false (c.if-covers_code.ensures.0 refl) in
+    let only = only_on c.args.caller.now c.loop-index.caller c.slot-code.new.caller c.loop-index.invariant.only c.slot-code.ensures.only in
+    let stands : Stands c.args.board.now c.slot-code.new.caller c.loop-index.count = stands_on c.args.board.now c.loop-index.caller c.slot-code.new.caller c.loop-index.count c.loop-index.count c.loop-index.invariant.stands c.slot-code.ensures.only
+    (c.loop-index.invariant.stands.pages ∙ sym (slot_pages (seat_of c.loop-index.caller.account) (seat_of c.slot-code.new.caller.account) c.args.at.number c.slot-code.result c.slot-code.ensures.after)) in
+    let code : get_elem? (visited (seat_of c.slot-code.new.caller.account).reached c.args.at.number).slots c.loop-index.index ≡ some c.slot-code.result = there1 c.args.board.now.shape.chain (g.N.Asks.covers c.args.need.now) c.args.at.number c.args.at.page c.args.depth (seat_of c.args.caller.now.account) (g.S.RowSink.given c.args.sink.now) c.requires.at
+    (seat_of c.loop-index.caller.account) (g.S.RowSink.given c.loop-index.sink) c.loop-index.index c.loop-index.rows c.loop-index.invariant.reading
+    (seat_of c.slot-code.new.caller.account) c.slot-code.result c.slot-code.ensures.after (some_moment c.args.board.now.shape c.slot-code.new.caller.account c.slot-code.ensures.board) c.loop-index-test.true c.if-code-eq0.false in
+    let board : SomeBoard c.args.board.now.shape c.slot-code.new.caller.account = c.slot-code.ensures.board in
     search rules
 
 pub inner_page-overflow_add-rows : goal.inner_page-overflow_add-rows
@@ -111,13 +124,22 @@ inner_page-overflow_add-rows g t c =
 
 pub inner_page-loop-index-preserved : goal.inner_page-loop-index-preserved
 inner_page-loop-index-preserved g t c = elim c.if-covers_code.branch [
-  | inner_page-then-covers_code+in_ok-rows w ↦ rw (w.pages-is, w.sink-is, w.rows-is) (inner_more c.args.board.now.shape.chain (g.N.Asks.covers c.args.need.now) c.args.at.number c.args.at.page c.args.depth (seat_of c.args.caller.now.account) (g.S.RowSink.given c.args.sink.now) c.requires.at
-      (seat_of c.loop-index.caller.account) (g.S.RowSink.given c.loop-index.sink) c.loop-index.index c.loop-index.rows c.loop-index.invariant.reading
-      (seat_of c.slot-code.new.caller.account) c.slot-code.result c.slot-code.ensures.after (some_moment c.args.board.now.shape c.slot-code.new.caller.account c.slot-code.ensures.board) c.loop-index-test.true c.if-code-eq0.false
-      (seat_of w.follow.new.caller.account) (g.S.RowSink.given w.follow.new.sink) w.in_ok-rows.field-0 (w.if-covers_code.ensures.0 refl) w.in_ok-rows.ensures.ok)
-  | inner_page-else-covers_code w ↦ rw (w.pages-is, w.sink-is, w.rows-is) (inner_pass c.args.board.now.shape.chain (g.N.Asks.covers c.args.need.now) c.args.at.number c.args.at.page c.args.depth (seat_of c.args.caller.now.account) (g.S.RowSink.given c.args.sink.now) c.requires.at
-      (seat_of c.loop-index.caller.account) (g.S.RowSink.given c.loop-index.sink) c.loop-index.index c.loop-index.rows c.loop-index.invariant.reading
-      (seat_of c.slot-code.new.caller.account) c.slot-code.result c.slot-code.ensures.after (some_moment c.args.board.now.shape c.slot-code.new.caller.account c.slot-code.ensures.board) c.loop-index-test.true c.if-code-eq0.false (λ ok. let clash : false ≡ true = w.if-covers_code.ensures.1 ok in cc))
+  | inner_page-then-covers_code+in_ok-rows w ↦ rw (w.caller-is, w.sink-is, w.rows-is, w.count-is) (record {
+    stands = w.in_ok-rows.ensures.stands;
+    only = only_on c.args.caller.now c.slot-code.new.caller w.follow.new.caller (only_on c.args.caller.now c.loop-index.caller c.slot-code.new.caller c.loop-index.invariant.only c.slot-code.ensures.only) w.in_ok-rows.ensures.only;
+    reading = inner_more c.args.board.now.shape.chain (g.N.Asks.covers c.args.need.now) c.args.at.number c.args.at.page c.args.depth (seat_of c.args.caller.now.account) (g.S.RowSink.given c.args.sink.now) c.requires.at
+        (seat_of c.loop-index.caller.account) (g.S.RowSink.given c.loop-index.sink) c.loop-index.index c.loop-index.rows c.loop-index.invariant.reading
+        (seat_of c.slot-code.new.caller.account) c.slot-code.result c.slot-code.ensures.after (some_moment c.args.board.now.shape c.slot-code.new.caller.account c.slot-code.ensures.board) c.loop-index-test.true c.if-code-eq0.false
+        (seat_of w.follow.new.caller.account) (g.S.RowSink.given w.follow.new.sink) w.in_ok-rows.field-0 (w.if-covers_code.ensures.0 refl) w.in_ok-rows.ensures.ok;
+  })
+  | inner_page-else-covers_code w ↦ rw (w.caller-is, w.sink-is, w.rows-is, w.count-is) (record {
+    stands = stands_on c.args.board.now c.loop-index.caller c.slot-code.new.caller c.loop-index.count c.loop-index.count c.loop-index.invariant.stands c.slot-code.ensures.only
+        (c.loop-index.invariant.stands.pages ∙ sym (slot_pages (seat_of c.loop-index.caller.account) (seat_of c.slot-code.new.caller.account) c.args.at.number c.slot-code.result c.slot-code.ensures.after));
+    only = only_on c.args.caller.now c.loop-index.caller c.slot-code.new.caller c.loop-index.invariant.only c.slot-code.ensures.only;
+    reading = inner_pass c.args.board.now.shape.chain (g.N.Asks.covers c.args.need.now) c.args.at.number c.args.at.page c.args.depth (seat_of c.args.caller.now.account) (g.S.RowSink.given c.args.sink.now) c.requires.at
+        (seat_of c.loop-index.caller.account) (g.S.RowSink.given c.loop-index.sink) c.loop-index.index c.loop-index.rows c.loop-index.invariant.reading
+        (seat_of c.slot-code.new.caller.account) c.slot-code.result c.slot-code.ensures.after (some_moment c.args.board.now.shape c.slot-code.new.caller.account c.slot-code.ensures.board) c.loop-index-test.true c.if-code-eq0.false (λ ok. let clash : false ≡ true = w.if-covers_code.ensures.1 ok in cc);
+  })
 ]
 
 pub inner_page-returns-clause-ok : goal.inner_page-returns-clause-ok
@@ -145,3 +167,16 @@ inner_page-returns-in_err-rows-clause-err g t c = err_any c.from_residual.result
     (seat_of c.loop-index.caller.account) (g.S.RowSink.given c.loop-index.sink) c.loop-index.index c.loop-index.rows c.loop-index.invariant.reading
     (seat_of c.slot-code.new.caller.account) c.slot-code.result c.slot-code.ensures.after (some_moment c.args.board.now.shape c.slot-code.new.caller.account c.slot-code.ensures.board) c.loop-index-test.true c.if-code-eq0.false
     (seat_of c.follow.new.caller.account) (g.S.RowSink.given c.follow.new.sink) (c.if-covers_code.ensures.0 refl) c.in_err-rows.ensures.err)
+
+pub chain-returns-then-count-eq18446744073709551615-clause-err : goal.chain-returns-then-count-eq18446744073709551615-clause-err
+chain-returns-then-count-eq18446744073709551615-clause-err g t c =
+    let paged = chain_page c.args.board.now.shape.chain (g.N.Asks.covers c.args.need.now) c.args.first.number c.args.leaf c.args.depth (seat_of c.args.caller.now.account) (g.S.RowSink.given c.args.sink.now)
+    (seat_of c.chain.caller.account) (g.S.RowSink.given c.chain.sink) c.chain.at.number c.chain.at.page c.chain.rows c.chain.invariant.chaining c.requires.at.inside
+    (seat_of c.page.new.caller.account) (g.S.RowSink.given c.page.new.sink) c.in_ok-part.part.rows c.in_ok-part.part.ended c.in_ok-part.ensures.ok in
+    chain_full c.args.board.now.shape.chain (g.N.Asks.covers c.args.need.now) c.args.first.number c.args.leaf c.args.depth (seat_of c.args.caller.now.account) (seat_of c.page.new.caller.account) (g.S.RowSink.given c.args.sink.now) (g.S.RowSink.given c.page.new.sink) c.chain.at.number c.chain.at.page (c.chain.rows + c.in_ok-part.part.rows) c.in_ok-part.part.ended paged
+
+pub follow-returns-then-count-eq18446744073709551615-clause-err : goal.follow-returns-then-count-eq18446744073709551615-clause-err
+follow-returns-then-count-eq18446744073709551615-clause-err g t c = follow_full c.args.board.now.shape.chain (g.N.Asks.covers c.args.need.now) c.args.at.number c.args.at.page c.args.index c.args.depth (seat_of c.args.caller.now.account) (g.S.RowSink.given c.args.sink.now) c.requires.at (some_moment c.args.board.now.shape c.args.caller.now.account c.requires.board)
+
+pub follow-returns-then-count-eq18446744073709551615-clause-only : goal.follow-returns-then-count-eq18446744073709551615-clause-only
+follow-returns-then-count-eq18446744073709551615-clause-only g t c = only_same c.args.caller.now

@@ -1,4 +1,3 @@
-use Rattle.std.proofs.Common.{◌≡◌, length}
 use Rattle.descent.specs.Seats.{seat_of}
 use Rattle.descent.specs.Standing.{OnlyLoads}
 use Rattle.descent.proofs.Reading.{LeafReading}
