@@ -11,6 +11,7 @@ pub mod Kept
 pub mod Ruled
 pub mod Told
 pub mod Printing
+pub mod LogLines
 pub mod Reported
 pub mod Chained
 pub mod Publishing

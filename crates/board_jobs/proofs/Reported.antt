@@ -1,7 +1,7 @@
 -- The blocks of groups that are done, and the events that all callers have seen, are a report of its own log.
 use Rattle.std.proofs.Common.{◌≡◌, ℕ, suc, ◌≤◌, List, [], ◌∷◌, length, map, take, sym, refl, ap, subst, ◌∙◌, All, arith}
-use Rattle.std.proofs.lemmas.List.{length-take-le}
-use Rattle.std.proofs.lemmas.List.Elements.{All-cons, All-nil, All-take}
+use Rattle.std.proofs.lemmas.List.{length-map, length-take-le}
+use Rattle.std.proofs.lemmas.List.Elements.{All-cons, All-map, All-nil, All-take}
 use mathlib.Core.Option.{some-injective}
 use lib.ListN.{get_elem?}
 use Rattle.htss_defs.specs.declared.history.Event.{Event}
@@ -11,7 +11,10 @@ use Rattle.htss_defs.specs.declared.shape.Field.TheVariants.{Loaders}
 use Rattle.htss_defs.specs.History.{IsLegal}
 use Rattle.htss_defs.specs.Shapes.{IsShape}
 use Rattle.script_text.specs.declared.script.Group.{Group}
+use Rattle.report_text.specs.Typed.{IsTypedBlock}
+use Rattle.report_text.specs.Values.{IsLogLine, IsU64}
 use Rattle.report_rules.specs.Reports.{Done, done_block, log_line, IsByLoader, IsToldBy, IsReport}
+use Rattle.report_rules.proofs.InGrammar.{AreShort, in_grammar}
 use Rattle.board_core.specs.declared.account.Account.{Account}
 use Rattle.board_core.specs.Each.{Each}
 use Rattle.board_core.specs.Words.{Parts}
@@ -22,6 +25,7 @@ use Rattle.board_core.proofs.BlockCauses.{publishes_in_first, withdraws_of_first
 use Rattle.board_core.proofs.Shown.{history_counted}
 use Rattle.board_jobs.specs.Ends.{HaveGoneOn, IsEnd}
 use Rattle.board_jobs.specs.Groups.{AreGroupsDone, AreNew}
+use Rattle.board_jobs.proofs.LogLines.{log_lines}
 use Rattle.board_jobs.proofs.Named.{whole}
 use Rattle.board_jobs.proofs.Places.{elem_at}
 use Rattle.board_jobs.proofs.Ruled.{front_within}
@@ -61,23 +65,31 @@ known_end k p last shape end =
 
 pub reported : (k : Shape) (files : List (ℕ × List ℕ)) (budget : ℕ) (groups : List Group) (before middle last : List Account) (front : ℕ) (done : List Done) (p : Parts)
     → IsShape k → AreNew k before → AreGroupsDone k files budget 1 groups before middle front done → HaveGoneOn k middle last → IsEnd k p last
+    → AreShort files → IsU64 budget → All IsTypedBlock (map done_block done)
     → (h : List Event) → h ≡ take front (history_of k p) → IsReport groups files k budget (record { shape = k; budget = budget; blocks = map done_block done; events = map log_line h })
-reported k files budget groups before middle last front done p shape new are gone end h is =
+reported k files budget groups before middle last front done p shape new are gone end short fits typed h is =
     let known : Known k p = known_end k p last shape end in
     let few : front ≤ length (history_of k p) = front_within k files budget groups before middle last front done p shape new are gone end in
     let long : length h ≡ front = ap length is ∙ length-take-le front (history_of k p) few in
     let counted : length (history_of k p) ≡ p.log.front = history_counted k p in
     let room : p.log.front ≤ k.log = known.front in
+    let legal = subst IsLegal (sym is) (legal_first (history_of k p) front few known.legal) in
+    let loaders = subst (All (IsByLoader k)) (sym is) (All-take (IsByLoader k) front (history_of k p) (all_by_loaders k (history_of k p) end.loaders)) in
+    let tells = subst (λ l. IsToldBy groups files k budget l (map done_block done)) (sym is) (told k files budget groups before middle last front done p shape new are gone end) in
+    let within : length h ≤ k.log = omega (arith, long, few, counted, room) in
+    let first = All-take (λ e. IsLogLine (log_line e)) front (history_of k p) (log_lines k p shape known (all_by_loaders k (history_of k p) end.loaders)) in
+    let events : All IsLogLine (map log_line h) = All-map IsLogLine log_line h (subst (All (λ e. IsLogLine (log_line e))) (sym is) first) in
     record {
+      in_grammar = in_grammar groups files k budget h _ shape refl fits short within (length-map h log_line) tells typed events;
       in_limits = shape;
       shape_is = refl;
       budget_is = refl;
       history = h;
-      within = omega (arith, long, few, counted, room);
-      legal = subst IsLegal (sym is) (legal_first (history_of k p) front few known.legal);
-      loaders = subst (All (IsByLoader k)) (sym is) (All-take (IsByLoader k) front (history_of k p) (all_by_loaders k (history_of k p) end.loaders));
+      within = within;
+      legal = legal;
+      loaders = loaders;
       log = refl;
-      told = subst (λ l. IsToldBy groups files k budget l (map done_block done)) (sym is) (told k files budget groups before middle last front done p shape new are gone end);
+      told = tells;
     }
 
 gone_nowhere : (k : Shape) (middle last : List Account) → last ≡ middle → HaveGoneOn k middle last
@@ -89,7 +101,8 @@ gone_nowhere k middle last same = record {
 -- where nothing was done after the groups, the report has all of the history
 pub reported_whole : (k : Shape) (files : List (ℕ × List ℕ)) (budget : ℕ) (groups : List Group) (before middle last : List Account) (front : ℕ) (done : List Done) (p : Parts)
     → IsShape k → AreNew k before → AreGroupsDone k files budget 1 groups before middle front done → last ≡ middle → IsEnd k p last
+    → AreShort files → IsU64 budget → All IsTypedBlock (map done_block done)
     → (h : List Event) → h ≡ history_of k p → IsReport groups files k budget (record { shape = k; budget = budget; blocks = map done_block done; events = map log_line h })
-reported_whole k files budget groups before middle last front done p shape new are same end h is =
-    reported k files budget groups before middle last front done p shape new are (gone_nowhere k middle last same) end h
+reported_whole k files budget groups before middle last front done p shape new are same end short fits typed h is =
+    reported k files budget groups before middle last front done p shape new are (gone_nowhere k middle last same) end short fits typed h
     (is ∙ sym (whole k files budget groups before middle last front done p new are same end))

@@ -15,7 +15,7 @@ use Rattle.report_text.specs.declared.report.WithdrawLine.TheVariants.{At, Unkno
 use Rattle.report_text.specs.declared.report.LogLine.{LogLine}
 use Rattle.report_lines.specs.declared.line.Line.{Line}
 use Rattle.report_lines.specs.declared.line.Line.TheVariants.{Load, Answer, Loaded, Search, NotRead, OverBudget, Log, End}
-use Rattle.report_lines.specs.Values.{AreShapeNumbers, IsLoadLine, IsLogLine, IsU8, IsU32, IsWithdrawLine}
+use Rattle.report_text.specs.Values.{AreShapeNumbers, IsLoadLine, IsLogLine, IsU8, IsU32, IsWithdrawLine}
 use Rattle.report_lines.specs.Lines.{IsLine, line_text}
 use Rattle.report_lines.specs.Reader.{answer_as, at_end, callers_at, labelled_at, label_at, map_at, name_at, refusal_at, word_at, word_back, word_front, data_full_at, event_at, file_at, header_at, hit_at, hits_at, last_number, line_as, line_at, load_at, logged_as, number_at, publish_at, published_at, refused_at, search_as, search_at, shape_at, short_as, sizes_at, unpublished_at, unpublished_for, withdraw_answer_at, withdraw_at, withdrawn_as, withdrawn_at}
 use Rattle.report_lines.proofs.Bodies.{answer_rest, answer_word, callers_body, event_body, line_rest, line_whole, line_word, sizes_body}

@@ -10,7 +10,7 @@ use Rattle.std.proofs.lemmas.List.Folds.{list_all-append}
 use Rattle.std.proofs.lemmas.List.Splits.{length-slice_split, slice_split_at, slice_split_none}
 use Rattle.std.proofs.lemmas.Fmt.{decimal_is_IsNumeral}
 use Rattle.hit_report.specs.HitLines.{map_text}
-use Rattle.report_lines.specs.Values.{IsU16}
+use Rattle.report_text.specs.Values.{IsU16}
 use Rattle.report_lines.specs.Reader.{is_visible, map_at, parts_of, place_of, places_in, places_of}
 use Rattle.report_lines.proofs.WordsRead.{are_visible, decimal_visible, numeral_reads, stops, word_reads}
 

@@ -11,7 +11,7 @@ use Rattle.htss_defs.specs.FileName.{IsFileName}
 use Rattle.htss_defs.specs.Name.{IsName, IsVisible}
 use Rattle.hit_report.specs.HitLines.{name_text}
 use Rattle.hit_report.specs.RecordLines.{code_word, spaced}
-use Rattle.report_lines.specs.Values.{HasWord, IsRefusal}
+use Rattle.report_text.specs.Values.{HasWord, IsRefusal}
 use Rattle.report_lines.specs.Reader.{coded_at, file_at, is_file_name, is_name, is_only, is_printable, is_space, is_visible, label_at, name_at, named, refusal_at, word_at, word_back, word_front}
 use Rattle.report_lines.proofs.WordsRead.{are_visible, label_reads, number_reads, stops, word_reads}
 

@@ -11,7 +11,7 @@ use Rattle.htss_defs.specs.FileName.{IsFileName}
 use Rattle.htss_defs.specs.Name.{IsName}
 use Rattle.hit_report.specs.HitLines.{map_text, name_text}
 use Rattle.hit_report.specs.RecordLines.{code_word, spaced}
-use Rattle.report_lines.specs.Values.{HasWord, IsRefusal}
+use Rattle.report_text.specs.Values.{HasWord, IsRefusal}
 use Rattle.report_lines.specs.Reader.{coded_at, ends_at, file_at, is_file_name, is_name, is_only, label_at, map_at, name_at, named, number_at, numeral, parts_of, place_of, places_in, places_of, refusal_at, word_at}
 use Rattle.report_lines.proofs.Bodies.{refusal_body}
 use Rattle.report_lines.proofs.Maps.{IsPlace}

@@ -4,7 +4,7 @@ use lib.Chars.{codes}
 use Rattle.htss_defs.specs.FileName.{IsFileName}
 use Rattle.hit_report.specs.HitLines.{hit_line, overbudget_line}
 use Rattle.report_text.specs.ReportText.{event_line, front_text, header_text, hits_end, job_text, load_line, loaded_line, log_count_line, refused_part, withdraw_text}
-use Rattle.report_lines.specs.Values.{AreShapeNumbers, IsHitLine, IsLoadLine, IsLogLine, IsRefusal, IsU32, IsU64, IsWithdrawLine}
+use Rattle.report_text.specs.Values.{AreShapeNumbers, IsHitLine, IsLoadLine, IsLogLine, IsRefusal, IsU32, IsU64, IsWithdrawLine}
 use Rattle.report_lines.specs.declared.line.Line.{Line}
 use Rattle.report_lines.specs.declared.line.Line.TheVariants.{Header, Load, Answer, Loaded, Withdraw, Search, NotRead, OneHit, HitsEnd, OverBudget, Log, Event, End}
 

@@ -4,7 +4,7 @@ use Rattle.std.specs.Prelude.{Option, Some, Result, Ok, Err, IfOk, IfErr, map}
 use Rattle.report_text.specs.ReportText.{report_text}
 use Rattle.report_text.specs.declared.report.Report.{Report}
 use Rattle.report_lines.specs.Lines.{line_text}
-use Rattle.report_lines.specs.Values.{IsInGrammar}
+use Rattle.report_text.specs.Values.{IsInGrammar}
 use Rattle.report_lines.specs.declared.line.Line.{Line}
 use Rattle.report_read.specs.declared.reader.ReportRefusal.{ReportRefusal}
 use Rattle.report_read.specs.Faults.{IsFirstFault, cut_lines}

@@ -5,7 +5,7 @@ use Rattle.std.proofs.lemmas.Bool.{cases_Bool, cond-true, cond-false}
 use Rattle.std.proofs.lemmas.List.{append-nil}
 use Rattle.report_text.specs.declared.report.Report.{Report}
 use Rattle.report_lines.specs.Lines.{IsLine, line_text}
-use Rattle.report_lines.specs.Values.{IsInGrammar}
+use Rattle.report_text.specs.Values.{IsInGrammar}
 use Rattle.report_lines.specs.declared.line.Line.{Line}
 use Rattle.report_read.specs.Faults.{cut_lines, lines_of, with_byte}
 use Rattle.report_read.specs.ReportLines.{report_lines}

@@ -10,7 +10,7 @@ use Rattle.std.proofs.Math.Seq.{take-append_seam, take-length}
 use Rattle.report_text.specs.ReportText.{report_text}
 use Rattle.report_text.specs.declared.report.Report.{Report}
 use Rattle.report_lines.specs.Lines.{IsLine, line_text}
-use Rattle.report_lines.specs.Values.{IsInGrammar}
+use Rattle.report_text.specs.Values.{IsInGrammar}
 use Rattle.report_lines.specs.declared.line.Line.{Line}
 use Rattle.report_lines.proofs.Unique.{one_line}
 use Rattle.report_read.specs.declared.reader.ReportRefusal.{ReportRefusal}

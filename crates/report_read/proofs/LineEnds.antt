@@ -20,7 +20,7 @@ use Rattle.report_text.specs.declared.report.WithdrawLine.TheVariants.{At, Unkno
 use Rattle.report_text.specs.declared.report.LogLine.{LogLine}
 use Rattle.report_text.specs.declared.report.LogLine.TheVariants.{Publish, Withdraw as Withdrawn}
 use Rattle.report_lines.specs.Lines.{IsLine, line_text}
-use Rattle.report_lines.specs.Values.{AreShapeNumbers, HasWord, IsHitLine, IsLoadLine, IsLogLine, IsRefusal, IsU16, IsWithdrawLine}
+use Rattle.report_text.specs.Values.{AreShapeNumbers, HasWord, IsHitLine, IsLoadLine, IsLogLine, IsRefusal, IsU16, IsWithdrawLine}
 use Rattle.report_lines.specs.declared.line.Line.{Line}
 use Rattle.report_lines.specs.declared.line.Line.TheVariants.{Header, Load, Answer, Loaded, Withdraw, Search, NotRead, OneHit, HitsEnd, OverBudget, Log, Event, End}
 

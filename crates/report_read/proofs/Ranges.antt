@@ -16,7 +16,7 @@ use Rattle.report_text.specs.declared.report.LogLine.{LogLine}
 use Rattle.report_text.specs.declared.report.LogLine.TheVariants.{Withdraw as Withdrawn}
 use Rattle.report_text.specs.declared.report.SearchLine.TheVariants.{Hits, OverBudget as Over, Refused}
 use Rattle.report_lines.specs.Lines.{IsLine}
-use Rattle.report_lines.specs.Values.{IsBlock, IsHitLine, IsInGrammar, IsLoadLine, IsLogLine}
+use Rattle.report_text.specs.Values.{IsBlock, IsHitLine, IsInGrammar, IsLoadLine, IsLogLine}
 use Rattle.report_lines.specs.declared.line.Line.{Line}
 use Rattle.report_lines.specs.declared.line.Line.TheVariants.{Header, Load, Answer, Loaded, Withdraw, Search, NotRead, OneHit, HitsEnd, OverBudget, Log, Event, End}
 use Rattle.report_read.specs.ReportLines.{answer_lines, block_lines, event_lines, hit_lines, report_lines}

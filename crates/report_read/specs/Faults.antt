@@ -2,7 +2,7 @@
 use Rattle.std.specs.Prelude.{◌≡◌, ℕ, ◌+◌, ◌-◌, ◌≤◌, List, [], ◌∷◌, length, take, slice_get, ◌==◌, if◌then◌else◌}
 use Rattle.report_text.specs.declared.report.Report.{Report}
 use Rattle.report_text.specs.ReportText.{report_text}
-use Rattle.report_lines.specs.Values.{IsInGrammar}
+use Rattle.report_text.specs.Values.{IsInGrammar}
 
 -- the first line begins with this byte
 abbrev pub with_byte : ℕ → List (List ℕ) → List (List ℕ)

@@ -3,7 +3,7 @@ use Rattle.std.specs.Prelude.{◌≡◌, ℕ, ◌+◌, ◌≤◌, List, [], ◌�
 use Rattle.std.specs.List.{flat_map}
 use Rattle.htss_defs.specs.FileName.{IsFileName}
 use Rattle.report_lines.specs.Lines.{IsLine, line_text}
-use Rattle.report_lines.specs.Values.{AreShapeNumbers, IsBlock, IsHitLine, IsInGrammar, IsLoadLine, IsLogLine, IsU32, IsU64}
+use Rattle.report_text.specs.Values.{AreShapeNumbers, IsBlock, IsHitLine, IsInGrammar, IsLoadLine, IsLogLine, IsU32, IsU64}
 use Rattle.report_lines.specs.declared.line.Line.{Line}
 use Rattle.report_read.specs.Stages.{Begun, Stage, Fresh, Between, Loading, Searching, Logging, Ended, lines_to, step}
 

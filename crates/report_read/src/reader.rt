@@ -2,7 +2,7 @@
 ghost use Rattle.std.specs.Prelude.{◌≡◌, ◌≢◌, ◌<◌, ◌^◌, [], length, Ok, IfOk, IfErr};
 ghost use Rattle.report_text.specs.ReportText.{report_text};
 ghost use Rattle.report_text.specs.declared.report.Report.{Report};
-ghost use Rattle.report_lines.specs.Values.{IsInGrammar};
+ghost use Rattle.report_text.specs.Values.{IsInGrammar};
 ghost use Rattle.report_read.specs.Faults.{IsFirstFault, cut_lines};
 ghost use Rattle.report_read.specs.StageOf.{maybe_stage, stage_of};
 ghost use Rattle.report_read.specs.Stages.{Ended};

@@ -1,5 +1,5 @@
 -- What a report of its own log is (this project's own).
-use Rattle.std.specs.Prelude.{◌≡◌, ℕ, ◌+◌, ◌≤◌, List, [], ◌∷◌, ◌++◌, length, map, All, Contains, Option, Some, None, Ok, Err}
+use Rattle.std.specs.Prelude.{◌≡◌, ℕ, ◌≤◌, List, ◌∷◌, ◌++◌, length, map, All, Contains, Option, Some, None, Ok, Err}
 use Rattle.std.specs.List.{flat_map}
 use Rattle.htss_defs.specs.declared.history.Event.{Event}
 use Rattle.htss_defs.specs.declared.history.Event.TheVariants.{Publish, Withdraw}
@@ -14,6 +14,7 @@ use Rattle.script_text.specs.declared.script.Order.TheVariants as order
 use Rattle.script_text.specs.FilesByLine.{bytes_at}
 use Rattle.report_text.specs.declared.report.Block.{Block}
 use Rattle.report_text.specs.declared.report.Report.{Report}
+use Rattle.report_text.specs.Values.{IsInGrammar}
 use Rattle.report_text.specs.declared.report.LogLine.{LogLine}
 use Rattle.report_text.specs.declared.report.LogLine.TheVariants as log
 use Rattle.report_rules.specs.Answers.{JobAnswer, loaded, withdrew, searched, SearchAnswer, not_read, hits_at, over_at}
@@ -75,6 +76,7 @@ pub record IsToldBy (script : List Group) (files : List (ℕ × List ℕ)) (shap
 
 -- the report is one of its own log, for the script, the files of its lines, the shape and the budget
 pub record IsReport (script : List Group) (files : List (ℕ × List ℕ)) (shape : Shape) (budget : ℕ) (report : Report) : Type 0 where
+  pub in_grammar : IsInGrammar report
   pub in_limits : IsShape shape
   pub shape_is : report.shape ≡ shape
   pub budget_is : report.budget ≡ budget

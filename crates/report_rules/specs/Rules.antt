@@ -1,5 +1,5 @@
 -- The rules that the lines of a report keep (this project's own).
-use Rattle.std.specs.Prelude.{◌≡◌, ◌≢◌, ℕ, ◌+◌, ◌*◌, ◌/◌, ◌<◌, ◌≤◌, List, [], ◌∷◌, ◌++◌, length, take, All, sum_by, Bool, false, ◌==◌, if◌then◌else◌}
+use Rattle.std.specs.Prelude.{◌≡◌, ◌≢◌, ℕ, ◌+◌, ◌*◌, ◌/◌, ◌<◌, ◌≤◌, List, ◌++◌, length, take, All, sum_by, Bool, false, ◌==◌, if◌then◌else◌}
 use Rattle.htss_defs.specs.declared.history.Event.{Event}
 use Rattle.htss_defs.specs.declared.history.Event.TheVariants.{Publish, Withdraw}
 use Rattle.htss_defs.specs.declared.record.NamedMol.{NamedMol}
@@ -12,7 +12,7 @@ use Rattle.report_text.specs.declared.report.WithdrawLine.{WithdrawLine}
 use Rattle.report_text.specs.declared.report.WithdrawLine.TheVariants.{At, Unknown, Gone, LogFull as NoEntry}
 use Rattle.report_rules.specs.Answers.{Answer, to_record, to_search, to_withdrawal, fronts_of, numbers_of, own_number}
 use Rattle.report_rules.specs.Answers.{Fate, published, no_room, no_page, chain_full, log_full}
-use Rattle.report_rules.specs.Answers.{RecordAnswer, not_accepted, taken, SearchAnswer, not_read, hits_at, over_at}
+use Rattle.report_rules.specs.Answers.{not_accepted, taken, SearchAnswer, not_read, hits_at, over_at}
 use Rattle.report_rules.specs.Dealing.{Caller, loader, searcher}
 
 -- a line that answers, with the group and the caller of its job

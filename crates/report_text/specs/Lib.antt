@@ -1,1 +1,3 @@
 pub mod ReportText
+pub mod Values
+pub mod Typed

@@ -1,18 +1,18 @@
 -- The files of jobs, read one after the other.
-use Rattle.std.proofs.Common.{◌≡◌, ℕ, suc, ◌+◌, ◌<◌, List, [], ◌∷◌, ◌++◌, length, take, drop, append_assoc, refl, sym, ap, subst, ◌∙◌, eqb-true, eq-eqb, ne_eqb, arith}
+use Rattle.std.proofs.Common.{◌≡◌, ℕ, suc, ◌+◌, ◌<◌, ◌≤◌, List, [], ◌∷◌, ◌++◌, length, take, drop, append_assoc, refl, sym, ap, subst, ◌∙◌, eqb-true, eq-eqb, ne_eqb, arith}
 use Rattle.std.specs.Prelude.{Option, Some, All, Contains, Bool, true, false, ◌==◌, if◌then◌else◌, slice_index_or}
 use Rattle.std.proofs.lemmas.List.{append-nil, map-append, take-append-drop}
 use Rattle.std.proofs.lemmas.Grind.{flat_map-append}
 use Rattle.std.proofs.Math.Seq.{drop-cons, take-suc}
 use Rattle.std.proofs.lemmas.List.Elements.{All-append, All-cons, All-nil, Contains-append_left, Contains-append_right}
-use Rattle.outside.specs.Files.{File, WasRead}
+use Rattle.outside.specs.Files.{File, WasRead, file_limit}
 use Rattle.script_text.specs.declared.script.Job.{Job}
 use Rattle.script_text.specs.FilesByLine.{bytes_at}
 use Rattle.command_ends.specs.Outcomes.{Why}
 use Rattle.command_ends.specs.RunText.{AreFilesOf, CanBeRead, HasItsFile, IsFileOf, file_named, files_named}
 use Rattle.command_ends.specs.Ends.{ShelfGoesOn, ShelfSeen}
 use Rattle.command_ends.specs.Stops.{IsStopOfFile}
-use Rattle.run_command.specs.Runs.{AreOnlyFor, HaveFiles, IsAfter, StopsAmong, lines_of_jobs}
+use Rattle.run_command.specs.Runs.{AreOnlyFor, AreWithin, HaveFiles, IsAfter, StopsAmong, lines_of_jobs}
 use Rattle.command_ends.proofs.Causes.{IsStopOfFile-earlier}
 
 -- the file of another line is put beside those of these jobs
@@ -48,12 +48,20 @@ only_more old new jobs job bytes put only =
     subst (λ lines. Contains lines line) (sym (last_line jobs job))
     (only_case old (lines_of_jobs jobs) job.line line bytes found (line == job.line) refl (λ some is. only line some is) (sym (put.at line) ∙ at))
 
+within_case : (own : List ℕ) (old : Option (List ℕ)) (found : List ℕ) (same : Bool) → length own ≤ file_limit → ((at : List ℕ) → old ≡ Some at → length at ≤ file_limit) → (if same then Some own else old) ≡ Some found → length found ≤ file_limit
+within_case own old found true few within at = let here : own ≡ found = cc at in subst (λ (b : List ℕ). length b ≤ file_limit) here few
+within_case own old found false few within at = within found at
+
+within_more : (old new : List (ℕ × List ℕ)) (line : ℕ) (bytes : List ℕ) → IsPut old new line bytes → length bytes ≤ file_limit → AreWithin old → AreWithin new
+within_more old new line bytes put few within = λ asked found at. within_case bytes (bytes_at old asked) found (asked == line) few (within asked) (sym (put.at asked) ∙ at)
+
 -- the file of one more job was read and put by its line
 pub have_more : (told : Option (List File)) (old new : List (ℕ × List ℕ)) (jobs : List Job) (job : Job) (name bytes : List ℕ) → file_named job.order ≡ name ∷ [] → WasRead told name bytes → IsPut old new job.line bytes → IsAfter jobs job.line → HaveFiles told old jobs → HaveFiles told new (jobs ++ job ∷ [])
 have_more told old new jobs job name bytes named read put after have = record {
   are = All-append (HasItsFile told new) jobs (job ∷ []) (kept_files told old new job.line bytes put jobs after have.are)
       (All-cons (HasItsFile told new) job [] (one_name (IsFileOf told new job.line) _ name named (bytes, put.at job.line ∙ if_same job.line bytes (bytes_at old job.line), read)) (All-nil (HasItsFile told new)));
   only = only_more old new jobs job bytes put have.only;
+  within = within_more old new job.line bytes put read.within have.within;
 }
 
 -- the next job names no file
@@ -62,6 +70,7 @@ have_none told files jobs job named have = record {
   are = All-append (HasItsFile told files) jobs (job ∷ []) have.are
       (All-cons (HasItsFile told files) job [] (subst (All (IsFileOf told files job.line)) (sym named) (All-nil (IsFileOf told files job.line))) (All-nil (HasItsFile told files)));
   only = λ line bytes at. subst (λ lines. Contains lines line) (sym (last_line jobs job)) (Contains-append_left (lines_of_jobs jobs) (job.line ∷ []) line (have.only line bytes at));
+  within = have.within;
 }
 
 -- the file of a single job could not be read

@@ -3,7 +3,7 @@ use Rattle.std.proofs.Common.{◌≡◌, ℕ, zero, suc, ◌+◌, ◌<◌, ◌�
 use Rattle.std.specs.Prelude.{Option, Some, Bool, true, false, is_some, All, Contains, slice_index_or, ◌==◌, if◌then◌else◌}
 use Rattle.std.specs.List.{flat_map}
 use Rattle.std.proofs.lemmas.List.{append-nil, length-map, map-append, take_all}
-use Rattle.std.proofs.lemmas.List.Elements.{All-append, All-cons, All-nil, Contains-append_left, Contains-append_right}
+use Rattle.std.proofs.lemmas.List.Elements.{All-append, All-cons, All-map, All-nil, Contains-append_left, Contains-append_right}
 use Rattle.std.proofs.lemmas.Grind.{flat_map-append}
 use mathlib.Core.Option.{some}
 use lib.ListN.{get_elem?}
@@ -19,9 +19,12 @@ use Rattle.script_text.specs.declared.script.Order.TheVariants.{Load, Withdraw, 
 use Rattle.script_text.specs.FilesByLine.{bytes_at}
 use Rattle.report_text.specs.declared.report.Block.{Block}
 use Rattle.report_text.specs.ReportText.{block_text, header_text, log_text, report_text}
+use Rattle.report_text.specs.Typed.{IsTypedBlock}
+use Rattle.report_text.specs.Values.{IsLogLine, IsU64}
 use Rattle.report_rules.specs.Answers.{own_number}
-use Rattle.report_rules.specs.Reports.{Done, IsByLoader, done_block, done_lines, log_line}
+use Rattle.report_rules.specs.Reports.{Done, IsByLoader, IsToldBy, done_block, done_lines, log_line}
 use Rattle.report_rules.specs.Rules.{KeepsRule, Line}
+use Rattle.report_rules.proofs.InGrammar.{AreShort, in_grammar}
 use Rattle.board_core.specs.declared.account.Account.{Account}
 use Rattle.board_core.specs.Accounts.{caller_after}
 use Rattle.board_core.specs.Each.{Each}
@@ -41,7 +44,8 @@ use Rattle.board_jobs.proofs.Chained.{new_ready}
 use Rattle.board_jobs.proofs.Named.{named, whole}
 use Rattle.board_jobs.proofs.Places.{map_back}
 use Rattle.board_jobs.proofs.Printing.{entries_printed}
-use Rattle.board_jobs.proofs.Reported.{reported}
+use Rattle.board_jobs.proofs.LogLines.{log_lines}
+use Rattle.board_jobs.proofs.Reported.{known_end, reported}
 use Rattle.board_jobs.proofs.Ruled.{roomed, rowed, ruled}
 use Rattle.board_jobs.proofs.Told.{all_dealt}
 use Rattle.script_run.specs.declared.gate.Worker.{Worker}
@@ -55,7 +59,7 @@ use Rattle.command_ends.specs.Outcomes.{Why}
 use Rattle.command_ends.specs.Ends.{MayStop, ShelfGoesOn, ShelfSeen}
 use Rattle.command_ends.specs.RunText.{AreFilesOf, HasItsFile, IsFileOf, IsRunFront, IsRunFrontAtAnyTime, IsTextBefore, ScriptWasRead, file_named, jobs_of}
 use Rattle.run_command.specs.Headline.{IsRunOf}
-use Rattle.run_command.specs.Runs.{AreOnlyFor, HasDone, HasEnd, HaveFiles, IsGroupDone, RunMayStop, StopsAmong, StopsAtEnd, begun_text, lines_of_jobs, with_header}
+use Rattle.run_command.specs.Runs.{AreOnlyFor, AreWithin, HasDone, HasEnd, HaveFiles, IsGroupDone, RunMayStop, StopsAmong, StopsAtEnd, begun_text, lines_of_jobs, with_header}
 use Rattle.command_ends.proofs.Causes.{MayStop-earlier, MayStop-of-file}
 use Rattle.run_command.proofs.Gone.{gone_here, heard_nothing}
 use Rattle.run_command.proofs.GroupsDone.{group_kept, groups_kept, one_more}
@@ -128,6 +132,13 @@ only_both old new jobs others old_only new_only =
       | inr is ↦ Contains-append_right (lines_of_jobs jobs) (lines_of_jobs others) line (new_only line bytes is)
     ])
 
+within_both : (old new : List (ℕ × List ℕ)) → AreWithin old → AreWithin new → AreWithin (old ++ new)
+within_both old new first second = λ line bytes at. elim (only_case old new line bytes at) [ inl is ↦ first line bytes is | inr is ↦ second line bytes is ]
+
+-- a file that may be read is a short one
+short : (files : List (ℕ × List ℕ)) → AreWithin files → AreShort files
+short files within = λ line bytes at. omega (arith, within line bytes at)
+
 -- the files of one group more
 pub have_group : (told : Option (List File)) (script : List ℕ) (before after : List Group) (group : Group) (old new : List (ℕ × List ℕ)) → ScriptWasRead told script (before ++ group ∷ after) → HaveFiles told old (jobs_of before) → HaveFiles told new group.jobs → HaveFiles told (old ++ new) (jobs_of (before ++ group ∷ []))
 have_group told script before after group old new read old_have new_have =
@@ -136,6 +147,7 @@ have_group told script before after group old new read old_have new_have =
       are = All-append (HasItsFile told (old ++ new)) (jobs_of before) group.jobs (kept_files told old new (jobs_of before) old_have.are)
           (added_files told old new group.jobs (same_for told script before after group old new read old_have.only) new_have.are);
       only = only_both old new (jobs_of before) group.jobs old_have.only new_have.only;
+      within = within_both old new old_have.within new_have.within;
     })
 
 -- ---- the text
@@ -179,7 +191,8 @@ front_is told before shape budget accounts text reached done =
       files = done.files;
       files_read = done.have.are;
       report = record { shape = shape; budget = budget; blocks = map done_block done.done; events = map log_line seen };
-      is_report = reported shape done.files budget before done.new accounts between done.front done.done reached.words reached.limits done.are_new done.are_done gone end seen refl;
+      is_report = reported shape done.files budget before done.new accounts between done.front done.done reached.words reached.limits done.are_new done.are_done gone end
+          (short done.files done.have.within) done.fits done.typed seen refl;
       front_is = header_is told before shape budget accounts text done;
     }
 
@@ -199,8 +212,8 @@ begun_more [] group shape budget blocks = refl
 begun_more (first ∷ before) group shape budget blocks = refl
 
 -- one group more is done
-pub done_more : (told : Option (List File)) (script : List ℕ) (before after : List Group) (group : Group) (shape : Shape) (budget : ℕ) (files : List (ℕ × List ℕ)) (old new : List Account) (text text_now : List ℕ) (blocks : List Block) → ScriptWasRead told script (before ++ group ∷ after) → HaveFiles told files group.jobs → IsGroupDone shape files budget group old new blocks → text_now ≡ with_header text shape budget ++ flat_map block_text blocks → HasDone told before shape budget old text → HasDone told (before ++ group ∷ []) shape budget new text_now
-done_more told script before after group shape budget files old new text text_now blocks read have is_done text_is done =
+pub done_more : (told : Option (List File)) (script : List ℕ) (before after : List Group) (group : Group) (shape : Shape) (budget : ℕ) (files : List (ℕ × List ℕ)) (old new : List Account) (text text_now : List ℕ) (blocks : List Block) → ScriptWasRead told script (before ++ group ∷ after) → HaveFiles told files group.jobs → IsGroupDone shape files budget group old new blocks → All IsTypedBlock blocks → text_now ≡ with_header text shape budget ++ flat_map block_text blocks → HasDone told before shape budget old text → HasDone told (before ++ group ∷ []) shape budget new text_now
+done_more told script before after group shape budget files old new text text_now blocks read have is_done typed text_is done =
     let (front, more, one, blocks_are) = is_done (1 + length before) in
     let both : List (ℕ × List ℕ) = done.files ++ files in
     let those = groups_kept shape done.files both budget (λ line bytes at. kept_at done.files files line bytes at) 1 before done.new old done.front done.done done.are_done in
@@ -212,6 +225,9 @@ done_more told script before after group shape budget files old new text text_no
       are_new = done.are_new;
       front = front;
       done = done.done ++ more;
+      fits = done.fits;
+      typed = subst (All IsTypedBlock) (sym (map-append done_block done.done more))
+          (All-append IsTypedBlock (map done_block done.done) (map done_block more) done.typed (subst (All IsTypedBlock) blocks_are typed));
       are_done = one_more shape both budget 1 before group done.new old new done.front front done.done more those this;
       text_is = text_is
           ∙ ap (λ (l : List Block). with_header text shape budget ++ flat_map block_text l) blocks_are
@@ -254,6 +270,23 @@ run_is told script groups shape budget accounts text text_now last limits closed
     let dealt = all_dealt shape done.files budget 1 groups done.new accounts done.front done.done done.are_done in
     let whole_is : take done.front (history_of shape words) ≡ last.history =
     whole shape done.files budget groups done.new accounts accounts done.front done.done words done.are_new done.are_done refl end ∙ closed.end.shows in
+    let within : length last.history ≤ shape.log = subst (λ (k : Shape). length last.history ≤ k.log) closed.shape_is closed.settled.fits in
+    let by = all_by_loaders shape last.history (subst (λ (k : Shape). Each (log.IsByLoader k) last.history) closed.shape_is closed.settled.loaders) in
+    let told_by : IsToldBy groups done.files shape budget last.history (map done_block done.done) =
+    record {
+      done = done.done;
+      jobs = dealt.0;
+      by_files = dealt.1;
+      blocks_are = refl;
+      rules = subst (λ (h : List Event). (earlier later : List Line) (line : Line) → flat_map done_lines done.done ≡ earlier ++ line ∷ later → KeepsRule shape h earlier line) whole_is
+          (ruled shape done.files budget groups done.new accounts accounts done.front done.done words limits done.are_new done.are_done (gone_here shape accounts) end);
+      named = subst (λ (h : List Event). (number : ℕ) → 1 ≤ number → number ≤ length h → Contains (flat_map (λ line. own_number line.answer) (flat_map done_lines done.done)) number) whole_is
+          (named shape done.files budget groups done.new accounts accounts done.front done.done words done.are_new done.are_done (gone_here shape accounts) end);
+    } in
+    let lines : All IsLogLine (map log_line last.history) =
+    All-map IsLogLine log_line last.history
+    (subst (All (λ e. IsLogLine (log_line e))) closed.end.shows
+    (log_lines shape words limits (known_end shape words accounts limits end) (subst (All (IsByLoader shape)) (sym closed.end.shows) by))) in
     record {
       run = record {
         groups = groups;
@@ -262,24 +295,16 @@ run_is told script groups shape budget accounts text text_now last limits closed
         files_read = done.have.are;
         report = record { shape = shape; budget = budget; blocks = map done_block done.done; events = map log_line last.history };
         is_report = record {
+          in_grammar = in_grammar groups done.files shape budget last.history _ limits refl done.fits (short done.files done.have.within) within (length-map last.history log_line) told_by done.typed lines;
           in_limits = limits;
           shape_is = refl;
           budget_is = refl;
           history = last.history;
-          within = subst (λ (k : Shape). length last.history ≤ k.log) closed.shape_is closed.settled.fits;
+          within = within;
           legal = closed.settled.legal;
-          loaders = all_by_loaders shape last.history (subst (λ (k : Shape). Each (log.IsByLoader k) last.history) closed.shape_is closed.settled.loaders);
+          loaders = by;
           log = refl;
-          told = record {
-            done = done.done;
-            jobs = dealt.0;
-            by_files = dealt.1;
-            blocks_are = refl;
-            rules = subst (λ (h : List Event). (earlier later : List Line) (line : Line) → flat_map done_lines done.done ≡ earlier ++ line ∷ later → KeepsRule shape h earlier line) whole_is
-                (ruled shape done.files budget groups done.new accounts accounts done.front done.done words limits done.are_new done.are_done (gone_here shape accounts) end);
-            named = subst (λ (h : List Event). (number : ℕ) → 1 ≤ number → number ≤ length h → Contains (flat_map (λ line. own_number line.answer) (flat_map done_lines done.done)) number) whole_is
-                (named shape done.files budget groups done.new accounts accounts done.front done.done words done.are_new done.are_done (gone_here shape accounts) end);
-          };
+          told = told_by;
         };
         text_is = text_is
             ∙ ap (λ t. t ++ log_text (map log_line last.history)) (done.text_is ∙ begun_is groups shape budget (map done_block done.done) (script_has_group told script groups read))
@@ -404,15 +429,17 @@ any_time_at_the_end told script (group ∷ groups) shape budget accounts text re
 -- ---- the beginning
 
 -- nothing is done
-pub none_done : (told : Option (List File)) (shape : Shape) (budget : ℕ) (accounts : List Account) (text : List ℕ) → AreNew shape accounts → text ≡ [] → HasDone told [] shape budget accounts text
-none_done told shape budget accounts text new empty = record {
+pub none_done : (told : Option (List File)) (shape : Shape) (budget : ℕ) (accounts : List Account) (text : List ℕ) → AreNew shape accounts → text ≡ [] → IsU64 budget → HasDone told [] shape budget accounts text
+none_done told shape budget accounts text new empty fits = record {
   files = [];
-  have = record { are = λ k d lt. absurd (omega arith); only = λ line bytes at. absurd cc };
+  have = record { are = λ k d lt. absurd (omega arith); only = λ line bytes at. absurd cc; within = λ line bytes at. absurd cc };
   new = accounts;
   are_new = new;
   front = 0;
   done = [];
   are_done = (refl, refl, λ i a there. ap (λ (x : Account). x.log.seen) (new.1 i a there));
+  fits = fits;
+  typed = All-nil IsTypedBlock;
   text_is = empty;
 }
 

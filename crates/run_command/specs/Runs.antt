@@ -1,5 +1,5 @@
 -- What a run keeps of the groups that are done.
-use Rattle.std.specs.Prelude.{◌≡◌, ℕ, ◌+◌, ◌<◌, ◌≤◌, List, [], ◌∷◌, ◌++◌, map, All, Contains, Option, Some}
+use Rattle.std.specs.Prelude.{◌≡◌, ℕ, ◌+◌, ◌<◌, ◌≤◌, List, [], ◌∷◌, ◌++◌, length, map, All, Contains, Option, Some}
 use Rattle.std.specs.List.{flat_map}
 use Rattle.htss_defs.specs.declared.history.Event.{Event}
 use Rattle.htss_defs.specs.declared.shape.Shape.{Shape}
@@ -8,13 +8,15 @@ use Rattle.script_text.specs.declared.script.Group.{Group}
 use Rattle.script_text.specs.FilesByLine.{bytes_at}
 use Rattle.report_text.specs.declared.report.Block.{Block}
 use Rattle.report_text.specs.ReportText.{block_text, header_text}
+use Rattle.report_text.specs.Typed.{IsTypedBlock}
+use Rattle.report_text.specs.Values.{IsU64}
 use Rattle.report_rules.specs.Reports.{Done, done_block}
 use Rattle.board_core.specs.declared.account.Account.{Account}
 use Rattle.board_core.specs.Words.{Parts}
 use Rattle.board_core.specs.Histories.{history_of}
 use Rattle.board_jobs.specs.Groups.{AreGroupsDone, AreNew, GroupIsDone}
 use Rattle.board_jobs.specs.Ends.{IsEnd}
-use Rattle.outside.specs.Files.{File}
+use Rattle.outside.specs.Files.{File, file_limit}
 use Rattle.command_words.specs.Tasks.{run_of}
 use Rattle.command_ends.specs.Outcomes.{Why}
 use Rattle.command_ends.specs.Ends.{MayStop, ShelfSeen}
@@ -40,10 +42,15 @@ IsAfter jobs line = All (λ job. job.line < line) jobs
 abbrev pub AreOnlyFor : List (ℕ × List ℕ) → List Job → Type 0
 AreOnlyFor files jobs = (line : ℕ) (bytes : List ℕ) → bytes_at files line ≡ Some bytes → Contains (lines_of_jobs jobs) line
 
+-- none of the files has more bytes than a file may have
+abbrev pub AreWithin : List (ℕ × List ℕ) → Type 0
+AreWithin files = (line : ℕ) (bytes : List ℕ) → bytes_at files line ≡ Some bytes → length bytes ≤ file_limit
+
 -- the files of these jobs were read, and no others are there
 pub record HaveFiles (told : Option (List File)) (files : List (ℕ × List ℕ)) (jobs : List Job) : Type 0 where
   pub are : AreFilesOf told files jobs
   pub only : AreOnlyFor files jobs
+  pub within : AreWithin files
 
 -- a file of these jobs could not be read, and those before it were
 pub record StopsAmong (before now : ShelfSeen) (jobs : List Job) (why : Why) : Type 0 where
@@ -64,7 +71,7 @@ abbrev pub with_header : List ℕ → Shape → ℕ → List ℕ
 with_header [] shape budget = header_text shape budget
 with_header (byte ∷ bytes) shape budget = byte ∷ bytes
 
--- these groups are done, from the accounts of a new board to these, and their blocks are the text
+-- these groups are done, from the accounts of a new board to these, and their blocks, whose values are of their types, are the text
 pub record HasDone (told : Option (List File)) (groups : List Group) (shape : Shape) (budget : ℕ) (accounts : List Account) (text : List ℕ) : Type 0 where
   pub files : List (ℕ × List ℕ)
   pub have : HaveFiles told files (jobs_of groups)
@@ -73,6 +80,8 @@ pub record HasDone (told : Option (List File)) (groups : List Group) (shape : Sh
   pub front : ℕ
   pub done : List Done
   pub are_done : AreGroupsDone shape files budget 1 groups new accounts front done
+  pub fits : IsU64 budget
+  pub typed : All IsTypedBlock (map done_block done)
   pub text_is : text ≡ begun_text groups shape budget (map done_block done)
 
 -- with these accounts a board has this end

@@ -4,6 +4,7 @@ ghost use Rattle.std.specs.List.{flat_map};
 ghost use Rattle.htss_defs.specs.Shapes.{IsShape};
 ghost use Rattle.script_text.specs.declared.script.Group.{Group};
 ghost use Rattle.report_text.specs.ReportText.{block_text};
+ghost use Rattle.report_text.specs.Typed.{IsTypedBlock};
 ghost use Rattle.board_jobs.specs.Groups.{AreNew};
 ghost use Rattle.board_jobs.specs.Jobs.{IsThere};
 ghost use Rattle.script_run.specs.Working.{AreCallers};
@@ -22,6 +23,7 @@ use board::Board;
 use command_ends::Stop;
 use htss_defs::OutOfMemory;
 use outside::Shelf;
+use report_text::are_typed;
 use script_run::{Worker, run_group};
 use script_text::{Files, Group};
 use std::alloc::Global;
@@ -113,12 +115,14 @@ fn append_group<R: Threads + Wait + Sync>(
     ensures callers { AreCallers board.now (callers_of workers.new) }
     ensures done { OnOk result ((blocks : List Block)
         × IsGroupDone board.now.shape files.now budget group.now (accounts_of workers.old) (accounts_of workers.new) blocks
-        × (text.new.items ≡ with_header text.old.items board.now.shape budget ++ flat_map block_text blocks)) }
+        × (text.new.items ≡ with_header text.old.items board.now.shape budget ++ flat_map block_text blocks)
+        × All IsTypedBlock blocks) }
     ensures broken { OnErr result (HaveGoneAndHeard board.now.shape (accounts_of workers.old) (accounts_of workers.new)) }
     ensures front { OnErr result ((text.new.items ≡ text.old.items)
         ⊎ (text.new.items ≡ with_header text.old.items board.now.shape budget)) }
 {
     append_header(text, &board.shape(), budget)?;
     let blocks = run_group(rt, alloc, board, workers, group, files, budget)?;
+    are_typed(&blocks);
     append_blocks(text, &blocks)
 }

@@ -21,17 +21,25 @@ fn region_of(shape: &Shape, loader: usize) -> u64 {
     regions.saturating_add((loader as u64).saturating_mul(shape.room as u64))
 }
 
+// Whether the codes begin with the path.
+fn is_below(path: &Path, codes: &[u64; 5]) -> bool {
+    for place in 0..5usize {
+        if place < path.depth && path.codes[place] != codes[place] {
+            return false;
+        }
+    }
+    true
+}
+
 // How often this word stands in a leaf. Each time the leaf must be on the path of the codes.
 fn times(entries: &[Entry], word: u64, codes: &[u64; 5]) -> Result<usize, Fail> {
     let mut count = 0usize;
     for entry in entries {
         if entry.word == word {
-            count = count.saturating_add(1);
-            let Path { codes: path, depth } = entry.path;
-            match (path.get(..depth), codes.get(..depth)) {
-                (Some(path), Some(codes)) if path == codes => {}
-                _ => return Err("a row below another path".into()),
+            if !is_below(&entry.path, codes) {
+                return Err("a row below another path".into());
             }
+            count = count.saturating_add(1);
         }
     }
     Ok(count)

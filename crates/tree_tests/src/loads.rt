@@ -62,7 +62,8 @@ fn publish<R: Wait>(rt: &R, board: &Board, caller: &mut Caller, staged: Staged) 
     requires rest { IsAtRest board.now caller.old }
     requires loader { CanLoad caller.old }
     requires staged { IsStaged board.now.shape caller.old.account staged }
-    ensures { IsLoading board.now caller.new }
+    ensures rest { IsAtRest board.now caller.new }
+    ensures loader { CanLoad caller.new }
 {
     let locked = lock_with(rt, board, caller, &staged);
     match locked.publish(board, caller, staged) {

@@ -1,5 +1,5 @@
 // The records of the tests, and where they come from.
-ghost use Rattle.std.specs.Prelude.{IfSome};
+ghost use Rattle.std.specs.Prelude.{◌<◌, IfSome};
 ghost use Rattle.htss_defs.specs.Marked.{IsMarked};
 
 use htss_defs::{Atom, Bond, Mol, Name};
@@ -52,12 +52,11 @@ pub(crate) fn name_of(alloc: Global, sketch: &Sketch) -> Option<Name> {
 
 const ELEMENTS: [u8; 8] = [6, 6, 6, 6, 7, 7, 8, 1];
 
-// A number below this one.
-fn drawn(draws: &mut Pcg32, below: u32) -> u32 {
-    match below {
-        0 => 0,
-        _ => draws.next_word() % below,
-    }
+// A number below this one, which is not 0.
+fn drawn(draws: &mut Pcg32, below: u16) -> u16
+    requires { 0 < below }
+{
+    (draws.next_word() % below as u32) as u16
 }
 
 fn drawn_element(draws: &mut Pcg32) -> u8 {
@@ -71,11 +70,10 @@ fn drawn_element(draws: &mut Pcg32) -> u8 {
 fn drawn_sketch(alloc: Global, draws: &mut Pcg32, name: u32) -> Result<Sketch, Fail> {
     let mut elements = vec![in alloc; drawn_element(draws)]?;
     let mut bonds = Vec::new(alloc);
-    let more = drawn(draws, 5) as u16;
-    for place in 0..more {
+    for place in 0..drawn(draws, 5) {
         elements.push(drawn_element(draws))?;
-        let other = drawn(draws, place as u32 + 1) as u16;
-        let kind = 1 + drawn(draws, 3) as u8;
+        let other = drawn(draws, place.saturating_add(1));
+        let kind = 1 + (draws.next_word() % 3) as u8;
         if let (Some(first), Some(second)) = (other.checked_add(1), place.checked_add(2)) {
             bonds.push(bond(first, second, kind))?;
         }

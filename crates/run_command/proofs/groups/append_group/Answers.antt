@@ -1,8 +1,9 @@
-use Rattle.std.proofs.Common.{◌++◌, List, ℕ, ap, ◌∙◌}
+use Rattle.std.proofs.Common.{◌++◌, All, List, ℕ, ap, subst, ◌∙◌}
 use Rattle.std.specs.List.{flat_map}
 use Rattle.std.proofs.lemmas.Result.{on_ok_weaker}
 use Rattle.report_text.specs.ReportText.{block_text}
 use Rattle.report_text.specs.declared.report.Block.{Block}
+use Rattle.report_text.specs.Typed.{IsTypedBlock}
 use Rattle.htss_defs.specs.declared.shape.Shape.{Shape}
 use Rattle.script_run.specs.Workers.{accounts_of}
 use Rattle.run_command.specs.Runs.{with_header}
@@ -22,8 +23,9 @@ returns-clause-done g c =
       c.in_ok-blocks.blocks.items,
       c.in_ok-blocks.ensures.done,
       text
-          ∙ ap (λ (bs : List Block). c.append_header.new.text.items ++ flat_map block_text bs) c.deref.ensures.value
+          ∙ ap (λ (bs : List Block). c.append_header.new.text.items ++ flat_map block_text bs) c.deref-2.ensures.value
           ∙ ap (λ (t : List ℕ). t ++ flat_map block_text c.in_ok-blocks.blocks.items) (c.in_ok-append_header.ensures.ok ∙ ap (λ (k : Shape). with_header c.args.text.now.items k c.args.budget) c.shape.ensures.value),
+      subst (All IsTypedBlock) c.deref.ensures.value c.are_typed.ensures,
     ))
     c.append_blocks.ensures.ok
 

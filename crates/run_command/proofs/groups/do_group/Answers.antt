@@ -26,7 +26,7 @@ returns-in-Ok-clause-done g c =
     λ before after script read done.
     let have = rw c.as_slice.ensures at c.in_ok-files.ensures.have in
     let told = c.in-Ok.ensures.done in
-    done_more (g.F.Shelf.told c.args.shelf.now) script before after c.args.group.now c.args.board.now.shape c.args.budget c.in_ok-files.files (accounts_of c.args.workers.now) (accounts_of c.append_group.new.workers) c.args.text.now.items c.append_group.new.text.items told.0 read have told.1 told.2 done
+    done_more (g.F.Shelf.told c.args.shelf.now) script before after c.args.group.now c.args.board.now.shape c.args.budget c.in_ok-files.files (accounts_of c.args.workers.now) (accounts_of c.append_group.new.workers) c.args.text.now.items c.append_group.new.text.items told.0 read have told.1 told.3 told.2 done
 
 pub returns-clause-stop : goal.returns-clause-stop
 returns-clause-stop g c =

@@ -1,0 +1,10 @@
+//! A descent from the root of the class tree, which gives each row whose codes all cover a need.
+#![tactic(auto)]
+
+mod loads;
+mod rows;
+mod walk;
+
+pub use loads::Visit;
+pub use rows::{Asks, RowSink};
+pub use walk::sweep;

@@ -1,0 +1,14 @@
+pub mod CodeWords
+pub mod AskedAtoms
+pub mod InGrammar
+pub mod LineKinds
+pub mod OneQueries
+pub mod OneHits
+pub mod OneDone
+pub mod OneHistory
+pub mod Refuted
+pub mod Whole
+pub mod OneFault
+pub mod NoFault
+pub mod Tallies
+pub mod Pushed

@@ -1,0 +1,13 @@
+use Rattle.std.proofs.Common.{All, subst}
+use Rattle.std.proofs.lemmas.List.{take_all}
+use Rattle.std.proofs.lemmas.List.Elements.{All-more}
+use Rattle.report_text.specs.Typed.{IsTypedBlock}
+use Rattle.report_text.proofs.typed.are_typed.Goals as goal
+
+pub loop-block-preserved : goal.loop-block-preserved
+loop-block-preserved c =
+    All-more IsTypedBlock c.args.blocks.now c.loop-block.block-index c.block-item.result c.loop-block-test.true c.loop-block.invariant
+    (subst IsTypedBlock c.block-item.is c.is_typed.ensures)
+
+pub returns : goal.returns
+returns c = subst (All IsTypedBlock) (take_all c.loop-block.block-index c.args.blocks.now c.loop-block-test.false) c.loop-block.invariant
