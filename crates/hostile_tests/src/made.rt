@@ -86,7 +86,11 @@ fn file(alloc: Global, given: &Given<'_>) -> Result<NamedBytes, Fail> {
 }
 
 // Adds a file, which has a name of its own.
-fn add(rt: &impl Abort, files: &mut Vec<NamedBytes>, file: NamedBytes) -> Result<(), Fail>
+pub(crate) fn add(
+    rt: &impl Abort,
+    files: &mut Vec<NamedBytes>,
+    file: NamedBytes,
+) -> Result<(), Fail>
     requires { HaveOwnNames files.old.items }
     ensures { OnOk result (HaveOwnNames files.new.items) }
 {
