@@ -16,9 +16,10 @@ mod seats;
 mod staged;
 mod steps;
 mod stock;
+mod swept;
 mod tree;
 
-pub use blocks::{load_code, load_fact, load_head, load_mark};
+pub use blocks::{load_code, load_fact, load_head, load_mark, load_shown};
 pub use close::{Final, gather};
 pub use epochs::{
     LAST_EPOCH, advance_epoch, clear_announcement, load_announcement, load_epoch,
@@ -36,6 +37,7 @@ pub use steps::{
     Answers, Shown, advance_front, exchange_lock, free_lock, load_front, load_log_word,
     note_answers, store_log_word,
 };
+pub use swept::{Sweeps, note_swept};
 pub use tree::{
     begin_row, claim_code, claim_entry, link_leaf, link_next_inner, link_next_leaf, load_header,
     load_link, load_more, load_own_code, load_own_head, load_slot, store_own_word,

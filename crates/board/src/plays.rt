@@ -5,6 +5,7 @@ use crate::met::Met;
 use crate::pages::Paged;
 use crate::regions::{Completed, Ended, Marked};
 use crate::steps::{Answers, Shown};
+use crate::swept::Sweeps;
 use crate::tree::{Claims, Keeps, Reaches};
 use atomic_table::{Join, Play, Split};
 use board_core::View;
@@ -345,6 +346,19 @@ impl<E: Met> Play<(), View> for LoadMetCode<E> {
     ghost use Rattle.board_core.specs.Met.{LoadsMetCode};
 
     ghost then = { LoadsMetCode E.entry E.code };
+}
+
+pub(crate) struct NoteSwept<S> {
+    rows: PhantomData<S>,
+}
+
+impl<S: Sweeps> Play<(), View> for NoteSwept<S> {
+    ghost use Rattle.std.specs.Prelude.{[], ◌∷◌};
+    ghost use Rattle.board_core.specs.declared.entry.Entry.TheVariants.{Swept};
+    ghost use Rattle.board_core.specs.Steps.{Answers};
+    ghost use Rattle.board_core.specs.Boards.{OnBoard};
+
+    ghost then = { OnBoard (Answers (Swept S.need S.front S.rows ∷ [])) };
 }
 
 /// A note has seen what the caller has.

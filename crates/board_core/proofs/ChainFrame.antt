@@ -213,7 +213,7 @@ module _ (w : ℕ → ℕ → ℕ) (s : Sheet) (m : ℕ → Place) (codes : ℕ 
   entry_told k a old known (LogFull front) told = tt
   entry_told k a old known (DataFull left need) told = tt
   entry_told k a old known NoPage told = tt
-  entry_told k a old known (Swept need front rows) told = tt
+  entry_told k a old known (Swept need front rows) told = absurd told
 
   pub chains_true : (k : Shape) (a : Account) (old : ℕ → Type 0) (es : List Entry) → KnowsPages w s m codes old a.tree.reached → Each (IsToldChain k a) es → Each (IsTrueChain k w s) es
   chains_true k a old es known told j x there = entry_told k a old known x (told j x there)

@@ -48,6 +48,7 @@ pub mod Split
 pub mod Places
 pub mod Planned
 pub mod LoadSealed
+pub mod SweptFrame
 pub mod Stepped
 pub mod MarkWord
 pub mod MarkStore
@@ -72,6 +73,7 @@ pub mod LoadFront
 pub mod LoadLog
 pub mod LoadBlock
 pub mod AddEntries
+pub mod AddSwept
 pub mod Pooled
 pub mod LoadEpoch
 pub mod AdvanceEpoch

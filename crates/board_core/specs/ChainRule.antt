@@ -63,6 +63,7 @@ pub record HasWalked (a : Account) (count : ℕ) : Type 0 where
   pub rank : last.rank + 1 ≡ count
   pub full : page_room last.leaf ≤ length last.slots
 
+-- what a call answers beside descents, which have a step of their own
 abbrev pub IsToldChain : Shape → Account → Entry → Type 0
 IsToldChain k a (Published number event) = Unit {0}
 IsToldChain k a (Withdrawn number event) = Unit {0}
@@ -73,4 +74,4 @@ IsToldChain k a (LogFull front) = Unit {0}
 IsToldChain k a (DataFull left need) = Unit {0}
 IsToldChain k a NoPage = Unit {0}
 IsToldChain k a (ChainFull pages) = (pages ≡ k.chain) × HasWalked a pages
-IsToldChain k a (Swept need front rows) = Unit {0}
+IsToldChain k a (Swept need front rows) = ⊥

@@ -38,6 +38,7 @@ pub mod KnownRule
 pub mod TreeRule
 pub mod PublishedRule
 pub mod OldRows
+pub mod Swept
 pub mod PinRule
 pub mod ChainRule
 pub mod After
@@ -49,3 +50,4 @@ pub mod Holds
 pub mod Steps
 pub mod Met
 pub mod Boards
+pub mod Sweeps

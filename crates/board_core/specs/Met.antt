@@ -6,16 +6,12 @@ use Rattle.atomic_table.specs.Table.{Step}
 use Rattle.htss_defs.specs.declared.shape.Shape.{Shape}
 use Rattle.board_core.specs.declared.account.Account.{Account}
 use Rattle.board_core.specs.declared.loads.WordLoad.{WordLoad}
-use Rattle.board_core.specs.declared.room.Row.{Row}
 use Rattle.board_core.specs.Blocks.{atoms_in}
 use Rattle.board_core.specs.Rows.{block_named, atom_named}
+pub use Rattle.board_core.specs.Rows.{row_named}
 use Rattle.board_core.specs.Loaded.{IsVisit, IsInTable}
 use Rattle.board_core.specs.After.{visited}
 use Rattle.board_core.specs.Steps.{Mine, LoadsHead, LoadsCode}
-
--- the row that an entry names
-abbrev pub row_named : ℕ → Row
-row_named n = record { block = block_named n; atom = atom_named n }
 
 -- this entry was read in a leaf
 pub record HasMet (a : Account) (j i n : ℕ) : Type 0 where

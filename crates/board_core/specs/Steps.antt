@@ -20,7 +20,7 @@ use Rattle.board_core.specs.Truths.{IsTrueRoom, IsTrueLog, IsTruePool, told_in}
 use Rattle.board_core.specs.declared.room.Sealed.{Sealed}
 use Rattle.board_core.specs.declared.room.Row.{Row}
 use Rattle.board_core.specs.RoomRule.{own_block, region_of, store_of, IsSealed, SealedFits}
-use Rattle.board_core.specs.MarkRule.{IsAmong, AreListed}
+use Rattle.board_core.specs.MarkRule.{IsAmong, AreListed, ShowsAt}
 use Rattle.board_core.specs.Loaded.{HasLoaded, SawMark, IsOpenMark, IsInTable, IsPage, HasEpoch, HasState, HasParted, HasOwn, IsVisit, HasStored, one_word, leaf_place, next_place, IsToPlace, IsToClaim}
 use Rattle.board_core.specs.declared.tree.Link.TheVariants.{Unread}
 use Rattle.board_core.specs.ClassTree.{Place, chained, page_room, header_of}
@@ -38,6 +38,7 @@ use Rattle.board_core.specs.EpochRule.{IsPast, last_epoch}
 use Rattle.board_core.specs.LogWord.{kind_in, publication_word, target_in, withdrawal_word}
 use Rattle.board_core.specs.After.{visited, after_begun, after_linked, after_inner, after_split, after_entry, after_own, after_slot, after_link, after_more, after_epoch, after_advance, after_pin, after_unpin, after_pass, after_state, after_lost, after_page, after_retire, after_code, after_fact, after_head, after_mark, after_word, noted, after_take, after_free, after_answer, after_front, after_shows, after_ends, after_logged, after_event, after_shown}
 use Rattle.board_core.specs.PublishedRule.{AllPlaced}
+use Rattle.board_core.specs.Swept.{IsTrueSwept}
 
 abbrev pub Mine : Type 0
 Mine = Me (Unit {0}) View
@@ -294,11 +295,19 @@ pub record Known (k : Shape) (p : Parts) : Type 0 where
   pub legal : IsLegal (history_of k p)
   pub blocks : KnownBlocks k p
 
--- what the words have that the account has seen
+-- the first mark of a block is the number of the event, if any, that publishes it
+pub record FirstMark (k : Shape) (p : Parts) (block : ℕ) : Type 0 where
+  pub told : (number : ℕ) → 0 < number → number ≤ p.log.front → block_at k p.regions block shown_at ≡ number → ShowsAt p.log.front p.log.slots block number
+  pub stands : (number : ℕ) → ShowsAt p.log.front p.log.slots block number → block_at k p.regions block shown_at ≡ number
+
+-- what the words have that the account has seen: what was loaded, the first marks of the blocks of rows of which codes were loaded, and
+-- what its descents answered
 pub record Agrees (k : Shape) (p : Parts) (a : Account) : Type 0 where
   pub seen : a.log.seen ≤ p.log.front
   pub shown : Each (LoadFits k p.log) a.loads.shown
   pub blocks : BlocksStand k p.regions p.log.front a.loads
+  pub swept : Each (λ n. IsTrueSwept k p n.entry) a.entries
+  pub firsts : Each (λ l. FirstMark k p l.row.block) a.loads.codes
 
 -- the words may be these: the rule allows them, and they have what the account has loaded
 pub record MayBe (k : Shape) (p : Parts) (a : Account) : Type 0 where

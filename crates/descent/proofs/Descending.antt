@@ -108,12 +108,14 @@ module _ (chain : ℕ) (codes : ℕ → List ℕ) (put old : ℕ → Type 0) (co
     few = few;
   }
 
-  pub descended : IsDescended codes old covers a.loads b gs hs count
+  pub descended : IsDescended codes put old covers a.loads b gs hs count
   descended = record {
     swept = is_swept;
     given = q.parts.given;
     given_are = q.parts.given_are;
     differ = q.parts.gained.differ;
+    placed = λ i r e. let t = q.parts.gained.picked i r e in let m = met_of q.parts.mets r t.0 in subst put m.2 (met_below chain codes put old covers b.reached may.moment m.0 (q.parts.are_met m.1.0 m.0 m.1.1)).2;
+    loaded = λ i r e. let t = (q.parts.gained.picked i r e).1 0 (omega arith) in (load r 0 t.0, t.1, refl);
     covering = λ i r e. let t = q.parts.gained.picked i r e in good_covers r t.0 t.1;
     all_old = λ r o cover.
         let m = may.moment in

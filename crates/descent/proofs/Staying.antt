@@ -178,10 +178,10 @@ module _ (covers : ℕ → ℕ → Type 0) where
 pub below_trans : (p q cs : List ℕ) → IsBelow p q → IsBelow q cs → IsBelow p cs
 below_trans p q cs a b = (a.0 ++ b.0, b.1 ∙ (ap (λ l. l ++ b.0) a.1 ∙ append_assoc p a.0 b.0))
 
-pub met_below : (chain : ℕ) (codes : ℕ → List ℕ) (put old : ℕ → Type 0) (covers : ℕ → ℕ → Type 0) (rs : List Reached) (mo : Moment chain codes put old rs) (m : Met) → IsMet covers rs m → IsBelow m.path (codes m.row) × (length (codes m.row) ≡ 5)
+pub met_below : (chain : ℕ) (codes : ℕ → List ℕ) (put old : ℕ → Type 0) (covers : ℕ → ℕ → Type 0) (rs : List Reached) (mo : Moment chain codes put old rs) (m : Met) → IsMet covers rs m → IsBelow m.path (codes m.row) × (length (codes m.row) ≡ 5) × put m.row
 met_below chain codes put old covers rs mo m h =
     let t = row_below chain codes put old rs mo (visited rs h.number) (h.number, at_visit rs h.number h.inside) h.kind h.there.0 m.row h.there.1 in
-    (subst (λ (l : List ℕ). IsBelow l (codes m.row)) h.path t.0, t.1)
+    (subst (λ (l : List ℕ). IsBelow l (codes m.row)) h.path t.0, t.1, t.3)
 
 -- two rows below two codes of a page differ
 pub met_apart : (chain : ℕ) (covers : ℕ → ℕ → Type 0) (rs : List Reached) (mo : SomeMoment chain rs) (m n : Met) (path : List ℕ) (c d : ℕ) → IsMet covers rs m → IsMet covers rs n → m.row ≡ n.row → IsBelow (path ++ c ∷ []) m.path → IsBelow (path ++ d ∷ []) n.path → c ≡ d

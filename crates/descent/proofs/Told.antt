@@ -71,14 +71,14 @@ module _ (chain : ℕ) (codes : ℕ → List ℕ) (put old : ℕ → Type 0) (rs
       same_rank x y hx hy lx ly same.0
 
   -- an entry that was read is a row of the leaf's path
-  pub row_below : (x : Reached) → In x rs → x.leaf ≡ true → (a r : ℕ) → get_elem? x.slots a ≡ some r → IsBelow x.path (codes r) × (length (codes r) ≡ 5) × (r ≢ 0)
+  pub row_below : (x : Reached) → In x rs → x.leaf ≡ true → (a r : ℕ) → get_elem? x.slots a ≡ some r → IsBelow x.path (codes r) × (length (codes r) ≡ 5) × (r ≢ 0) × put r
   row_below x h leaf a r e =
       let k = known_entry x h leaf a r e in ⊎_elim
       (λ (l : IsLinked m.sheet x.page).
       let s = m.tree.entries r x.page a (subst (λ (b : Bool). HasSlot m.words m.sheet m.place b r x.page a) leaf (shows x h l a r e)) in
-      (subst (λ (p : Place). IsBelow p.path (codes r)) (place x h l) s.1, m.five r s.0, k.1))
+      (subst (λ (p : Place). IsBelow p.path (codes r)) (place x h l) s.1, m.five r s.0, k.1, s.0))
       (λ (o : AreKept (m.words x.page) codes put x.path).
-      (subst (λ (n : ℕ). IsBelow x.path (codes n)) k.2 (o.below a k.0), m.five r (subst put k.2 (o.placed a k.0)), k.1))
+      (subst (λ (n : ℕ). IsBelow x.path (codes n)) k.2 (o.below a k.0), m.five r (subst put k.2 (o.placed a k.0)), k.1, subst put k.2 (o.placed a k.0)))
       (m.kept h.0 x h.1 leaf)
 
   ranked_by : (b : Bool) (x : Reached) → In x rs → x.leaf ≡ b → x.rank < chain

@@ -31,7 +31,7 @@ module _ (k : Shape) (covers : ℕ → ℕ → Type 0) (c d : Seated) (fresh : c
   may = subst (λ (f : ℕ). MayBe k.chain (codes_in k p.regions) (IsPlaced vs) (IsOldRow k p.regions p.log.slots f) (seat_of d.account)) (ap (λ (z : Seated). z.account.tree.front) only.same) (may_be k p vs d.account b)
 
   pub whole : (n : ℕ) → ChainRead k.chain covers 0 false (seat_of c.account) (seat_of d.account) gs hs n
-      → IsDescended (codes_in k p.regions) (IsOldRow k p.regions p.log.slots c.account.tree.front) covers (seat_of c.account).loads (seat_of d.account) gs hs n
+      → IsDescended (codes_in k p.regions) (IsPlaced vs) (IsOldRow k p.regions p.log.slots c.account.tree.front) covers (seat_of c.account).loads (seat_of d.account) gs hs n
   whole n q = descended k.chain (codes_in k p.regions) (IsPlaced vs) (IsOldRow k p.regions p.log.slots c.account.tree.front) covers (seat_of c.account) fresh (seat_of d.account) gs hs n q may
 
   pub part : ChainTried k.chain covers 0 false (seat_of c.account) (seat_of d.account) gs hs → IsCutOff (codes_in k p.regions) covers gs hs

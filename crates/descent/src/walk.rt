@@ -6,7 +6,7 @@ ghost use Rattle.board_core.specs.declared.account.View.{View};
 ghost use Rattle.board_core.specs.Words.{Parts};
 ghost use Rattle.board_core.specs.After.{root};
 ghost use Rattle.board_core.specs.Loaded.{IsPage};
-ghost use Rattle.board_core.specs.Rows.{codes_in};
+ghost use Rattle.board_core.specs.Rows.{codes_in, IsPlaced};
 ghost use Rattle.board_core.specs.OldRows.{IsOldRow};
 ghost use Rattle.board_core.specs.Boards.{HasBoard, SomeBoard};
 ghost use Rattle.board.specs.Seated.{IsOf};
@@ -225,7 +225,7 @@ pub fn sweep<N: Asks, S: RowSink>(
     requires fresh { caller.old.account.tree.reached ≡ root ∷ [] }
     ensures only { OnlyLoads caller.old caller.new }
     ensures means { IfOk result (λ n. (p : Parts) (vs : List View) → HasBoard board.now.shape p vs caller.new.account
-        → IsDescended (codes_in board.now.shape p.regions) (IsOldRow board.now.shape p.regions p.log.slots caller.old.account.tree.front) (N.covers need.now) (seat_of caller.old.account).loads (seat_of caller.new.account) (S.given sink.old) (S.given sink.new) n) }
+        → IsDescended (codes_in board.now.shape p.regions) (IsPlaced vs) (IsOldRow board.now.shape p.regions p.log.slots caller.old.account.tree.front) (N.covers need.now) (seat_of caller.old.account).loads (seat_of caller.new.account) (S.given sink.old) (S.given sink.new) n) }
     ensures cut { IfErr result (λ _. (p : Parts) (vs : List View) → HasBoard board.now.shape p vs caller.new.account
         → IsCutOff (codes_in board.now.shape p.regions) (N.covers need.now) (S.given sink.old) (S.given sink.new)) }
 {

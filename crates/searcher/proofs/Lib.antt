@@ -2,6 +2,7 @@ pub mod Read
 pub mod Once
 pub mod Block
 pub mod Living
-pub mod Rows
+pub mod Recorded
+pub mod Skips
 pub mod Walks
 pub mod Answered

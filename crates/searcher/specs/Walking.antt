@@ -1,6 +1,5 @@
--- What a walk over the log words of a history keeps.
-use Rattle.std.specs.Prelude.{◌≡◌, ℕ, ◌+◌, ◌<◌, ◌≤◌, ◌⊎◌, List, length, map, take, All, Contains}
-use Rattle.std.specs.List.Sorted.{IsStrictlyIncreasing}
+-- What a search of the records that a descent has found keeps.
+use Rattle.std.specs.Prelude.{◌≡◌, ℕ, ◌<◌, ◌≤◌, List, length, map, take, slice_index, All, Contains}
 use Rattle.htss_defs.specs.declared.shape.Shape.{Shape}
 use Rattle.htss_defs.specs.declared.history.Event.{Event}
 use Rattle.htss_defs.specs.Molecule.{Molecule}
@@ -8,18 +7,17 @@ use Rattle.htss_defs.specs.Marked.{IsMarked}
 use Rattle.htss_defs.specs.QueryGraph.{QueryGraph}
 use Rattle.htss_defs.specs.HitLists.{HitsKept}
 use Rattle.htss_defs.specs.History.{IsLive}
-use Rattle.htss_defs.specs.Reply.{Numbered, Reply, IsReply, atoms_of, found}
-use Rattle.reg_model.specs.Searches.{Counts}
+use Rattle.htss_defs.specs.Reply.{Reply, IsReply, found}
+use Rattle.htss_defs.specs.declared.history.Hit.{Hit}
+use Rattle.htss_defs.specs.Screened.{IsScreened}
+use Rattle.reg_model.specs.Searches.{Counts, HasSearched, IsOverTo}
 use Rattle.board_core.specs.declared.account.Account.{Account}
 use Rattle.board_core.specs.Words.{Parts}
-use Rattle.board_core.specs.Blocks.{atoms_in, code_words_at, bond_words_at}
-use Rattle.board_core.specs.Records.{code_word_at}
 use Rattle.board_core.specs.Histories.{history_of}
-use Rattle.board_core.specs.Loaded.{Grows, HasFact, HasCode, HasLoaded, SawMark, IsOpenMark, IsInTable}
+use Rattle.board_core.specs.Loaded.{Grows, HasFact, HasLoaded, SawMark, IsOpenMark, IsInTable}
 use Rattle.board_core.specs.Steps.{MayBe}
-use Rattle.searcher.specs.Searched.{IsLiveRecord, CountsRows}
 
--- the second account has loaded more log words and words of blocks than the first, and differs in nothing else
+-- the second account has loaded more log words, marks and words of blocks than the first, but no codes, and differs in nothing else
 pub record Reads (a b : Account) : Type 0 where
   pub grown : Grows a b
   pub who : b.who ≡ a.who
@@ -29,12 +27,12 @@ pub record Reads (a b : Account) : Type 0 where
   pub tree : b.tree ≡ a.tree
   pub counts : b.counts ≡ a.counts
   pub fronts : b.loads.fronts ≡ a.loads.fronts
+  pub codes : b.loads.codes ≡ a.loads.codes
   pub entries : b.entries ≡ a.entries
 
--- the word at a place of a block, past its marks, was loaded as this one
-pub record HasWord (a : Account) (block head i word : ℕ) : Type 0 where
-  pub fact : (i < code_words_at head) ⊎ (bond_words_at head ≤ i) → HasFact a block i word
-  pub code : (atom code : ℕ) → atom < atoms_in head → code < 5 → code_word_at head atom code ≡ i → HasCode a block (atom + 1) code word
+-- the words of a block from one place up to another were loaded as these
+abbrev pub HasFacts : Account → ℕ → List ℕ → ℕ → ℕ → Type 0
+HasFacts a block words from until = (i : ℕ) → from ≤ i → i < until → HasFact a block i (slice_index words i)
 
 -- the number publishes this block, whose last mark was no event's up to the front
 pub record IsOpenBlock (k : Shape) (a : Account) (front number block : ℕ) : Type 0 where
@@ -58,21 +56,19 @@ pub record IsReadLive (k : Shape) (a : Account) (front number : ℕ) (name : Lis
   pub atoms : length mol.atoms ≤ 999
   pub live : Whatever k a front (λ h. IsLive h number name mol)
 
-abbrev pub numbers_of : List Numbered → List ℕ
-numbers_of records = map (λ one. one.number) records
+-- each screened record has one of these numbers
+abbrev pub AllScreened : QueryGraph → List ℕ → List Event → Type 0
+AllScreened query numbers history = (number : ℕ) (name : List ℕ) (mol : Molecule) → IsLive history number name mol → IsScreened query mol → Contains numbers number
 
--- exactly the live records that are numbered up to n
-pub record AreLiveTo (history : List Event) (n : ℕ) (records : List Numbered) : Type 0 where
-  pub rising : IsStrictlyIncreasing (numbers_of records)
-  pub within : All (λ x. x ≤ n) (numbers_of records)
-  pub each : All (IsLiveRecord history) records
-  pub all : (number : ℕ) (name : List ℕ) (mol : Molecule) → number ≤ n → IsLive history number name mol → Contains (numbers_of records) number
+-- the record of this number was taken, if there is one: what was searched before it then goes up to it
+abbrev pub Takes : ℕ → QueryGraph → (left count : ℕ) → List Hit → (left' count' : ℕ) → List Hit → List Event → Type 0
+Takes number asked left count hits left' count' hits' history =
+    (budget before : ℕ) → number ≡ before + 1 → HasSearched asked history budget left before count hits → HasSearched asked history budget left' number count' hits'
 
--- so many are the atoms of the live records that are numbered up to n
-pub record HasRows (history : List Event) (n rows : ℕ) : Type 0 where
-  pub records : List Numbered
-  pub are : AreLiveTo history n records
-  pub rows_are : rows ≡ atoms_of records
+-- or it costs more than is left
+abbrev pub Spends : ℕ → QueryGraph → (left count : ℕ) → List Hit → List Event → Type 0
+Spends number asked left count hits history =
+    (budget before : ℕ) → number ≡ before + 1 → HasSearched asked history budget left before count hits → IsOverTo asked history budget number
 
 -- the first events as they may be: they are all seen, and the reply is theirs
 pub record Replies (k : Shape) (a : Account) (query : QueryGraph) (budget front : ℕ) (reply : Reply) : Type 0 where
@@ -83,4 +79,3 @@ pub record Replies (k : Shape) (a : Account) (query : QueryGraph) (budget front 
 pub record AreFound (k : Shape) (a : Account) (query : QueryGraph) (budget front : ℕ) (hits : HitsKept) : Type 0 where
   pub replies : Replies k a query budget front (found hits.hits)
   pub screened : Whatever k a front (λ h. Counts query h hits.records)
-  pub rows : Whatever k a front (λ h. CountsRows h hits.rows)

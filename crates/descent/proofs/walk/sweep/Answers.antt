@@ -2,7 +2,7 @@ use Rattle.std.proofs.Common.{List, false}
 use Rattle.board_core.specs.declared.account.View.{View}
 use Rattle.board_core.specs.Words.{Parts}
 use Rattle.board_core.specs.OldRows.{IsOldRow}
-use Rattle.board_core.specs.Rows.{codes_in}
+use Rattle.board_core.specs.Rows.{codes_in, IsPlaced}
 use Rattle.board_core.specs.Boards.{HasBoard}
 use Rattle.descent.specs.Seats.{seat_of}
 use Rattle.descent.specs.Walks.{ChainRead, ChainTried}
@@ -26,7 +26,7 @@ pub returns-clause-means : goal.returns-clause-means
 returns-clause-means g c = ok_map c.chain.result
     (λ n. ChainRead c.args.board.now.shape.chain (g.N.Asks.covers c.args.need.now) 0 false (seat_of c.args.caller.now.account) (seat_of c.chain.new.caller.account) (g.S.RowSink.given c.args.sink.now) (g.S.RowSink.given c.chain.new.sink) n)
     (λ n. (p : Parts) (vs : List View) → HasBoard c.args.board.now.shape p vs c.chain.new.caller.account
-    → IsDescended (codes_in c.args.board.now.shape p.regions) (IsOldRow c.args.board.now.shape p.regions p.log.slots c.args.caller.now.account.tree.front) (g.N.Asks.covers c.args.need.now) (seat_of c.args.caller.now.account).loads (seat_of c.chain.new.caller.account) (g.S.RowSink.given c.args.sink.now) (g.S.RowSink.given c.chain.new.sink) n)
+    → IsDescended (codes_in c.args.board.now.shape p.regions) (IsPlaced vs) (IsOldRow c.args.board.now.shape p.regions p.log.slots c.args.caller.now.account.tree.front) (g.N.Asks.covers c.args.need.now) (seat_of c.args.caller.now.account).loads (seat_of c.chain.new.caller.account) (g.S.RowSink.given c.args.sink.now) (g.S.RowSink.given c.chain.new.sink) n)
     (λ n q p vs b. whole c.args.board.now.shape (g.N.Asks.covers c.args.need.now) c.args.caller.now c.chain.new.caller c.requires.fresh c.chain.ensures.only (g.S.RowSink.given c.args.sink.now) (g.S.RowSink.given c.chain.new.sink) p vs b n q)
     c.chain.ensures.ok
 
