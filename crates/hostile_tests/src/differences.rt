@@ -86,8 +86,10 @@ fn file(alloc: Global, name: &str, text: &str) -> Result<NamedBytes, Fail> {
 
 // The events of a withdrawal, or why there is none.
 fn withdraw(alloc: Global, story: &mut Story, line: u32, number: u32) -> Result<(), Fail>
-    requires { AreMarked story.old.registry.events }
-    ensures { OnOk result (AreMarked story.new.registry.events) }
+    requires marked { AreMarked story.old.registry.events }
+    requires names { HaveOwnNames story.old.files.items }
+    ensures marked { OnOk result (AreMarked story.new.registry.events) }
+    ensures names { OnOk result (HaveOwnNames story.new.files.items) }
 {
     story
         .script
@@ -111,8 +113,10 @@ fn withdraw(alloc: Global, story: &mut Story, line: u32, number: u32) -> Result<
 
 // One record is published.
 fn publish(alloc: Global, story: &mut Story, text: &str) -> Result<(), Fail>
-    requires { AreMarked story.old.registry.events }
-    ensures { OnOk result (AreMarked story.new.registry.events) }
+    requires marked { AreMarked story.old.registry.events }
+    requires names { HaveOwnNames story.old.files.items }
+    ensures marked { OnOk result (AreMarked story.new.registry.events) }
+    ensures names { OnOk result (HaveOwnNames story.new.files.items) }
 {
     let (name, mol) = record_of(alloc, text)?;
     let printed = String::from_str(alloc, str::from_utf8(name.bytes())?)?;
