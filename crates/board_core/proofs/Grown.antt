@@ -143,7 +143,6 @@ module _ (k : Shape) (a b : Account) (grown : Grows a b) where
   block_stays block words h = record {
     head = head_stays block (words 0) h.head;
     facts = λ i past within. fact_stays block i (words i) (h.facts i past within);
-    codes = λ atom code below few. code_stays block (atom + 1) code _ (h.codes atom code below few);
     bonds = λ i past within. fact_stays block i (words i) (h.bonds i past within);
   }
 

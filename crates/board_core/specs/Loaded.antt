@@ -91,11 +91,10 @@ pub record HasCode (a : Account) (block atom code word : ℕ) : Type 0 where
 abbrev pub KnowsRow : Account → ℕ → Type 0
 KnowsRow a block = (atom : ℕ) × (code : ℕ) × (word : ℕ) × HasCode a block atom code word
 
--- these are the words of a block as they were loaded, the two marks excepted
+-- these are the words of a block as they were loaded, the two marks and the codes excepted
 pub record HasBlock (k : Shape) (a : Account) (block : ℕ) (words : ℕ → ℕ) : Type 0 where
   pub head : KnowsHead k a block (words 0)
   pub facts : (i : ℕ) → 3 ≤ i → i < code_words_at (words 0) → HasFact a block i (words i)
-  pub codes : (atom code : ℕ) → atom < atoms_in (words 0) → code < 5 → HasCode a block (atom + 1) code (words (code_word_at (words 0) atom code))
   pub bonds : (i : ℕ) → bond_words_at (words 0) ≤ i → i < block_size (words 0) → HasFact a block i (words i)
 
 -- the second account has seen and loaded all that the first has
