@@ -19,3 +19,4 @@ pub mod Full
 pub mod Whole
 pub mod Covering
 pub mod Noting
+pub mod Program

@@ -8,3 +8,4 @@ pub mod Walks
 pub mod Descended
 pub mod Standing
 pub mod Answered
+pub mod Program
