@@ -1,6 +1,5 @@
 // A search at the front: the plain registry's walk over the records that are live.
-ghost use Rattle.std.specs.Prelude.{◌≡◌, ℕ, ◌<◌, ◌≤◌, [], ◌∷◌, length, slice_index, Err, IfOk, IfErr, OnOk};
-ghost use Rattle.std.specs.List.Sorted.{IsNonDecreasing};
+ghost use Rattle.std.specs.Prelude.{◌≡◌, ℕ, ◌≤◌, [], ◌∷◌, Err, IfOk, IfErr, OnOk};
 ghost use Rattle.htss_defs.specs.declared.history.SearchError.{SearchError};
 ghost use Rattle.htss_defs.specs.HitLists.{no_hits};
 ghost use Rattle.htss_defs.specs.Reply.{IsReply, found, over_budget};
@@ -11,7 +10,7 @@ ghost use Rattle.board_core.specs.After.{after_answer};
 ghost use Rattle.board_core.specs.Steps.{AreTrue};
 ghost use Rattle.board.specs.Seated.{IsOf, with_account};
 ghost use Rattle.searcher.specs.Searched.{IsSearched, LoadsOnce, SaysOfRows};
-ghost use Rattle.searcher.specs.Walking.{Reads, Replies, AreFound, AllScreened, Takes, Spends, Whatever};
+ghost use Rattle.searcher.specs.Walking.{Reads, Replies, AreFound, Whatever};
 
 use crate::live::load_live;
 use board::{Answers, Board, Caller, load_front, note_answers};
@@ -68,46 +67,7 @@ fn note_over(
     note_with::<Brand>(board, caller, query, budget, front, hits);
 }
 
-// Takes the record of a number, if one is live at the front.
-fn take_one(
-    alloc: Global,
-    board: &Board,
-    caller: &mut Caller,
-    front: u32,
-    number: u32,
-    search: &mut Search,
-    words: &mut [u64],
-    hits: &mut HitList,
-) -> Result<(), SearchError>
-    requires fits { IsOf board.now caller.old }
-    requires seen { caller.old.account.log.seen ≡ front }
-    requires front { front ≤ board.now.shape.log }
-    requires number { (0 < number) × (number ≤ front) }
-    requires room { search.old.records < number }
-    requires size { length words.old ≡ 7200 }
-    ensures of { IsOf board.now caller.new }
-    ensures stock { caller.new.stock ≡ caller.old.stock }
-    ensures reads { Reads caller.old.account caller.new.account }
-    ensures once { LoadsOnce caller.old.account caller.new.account 1 }
-    ensures size { length words.new ≡ 7200 }
-    ensures asked { search.new.matcher ≡ search.old.matcher }
-    ensures front { search.new.front ≡ search.old.front }
-    ensures room { search.new.records ≤ number }
-    ensures takes { OnOk result (Whatever board.now.shape caller.new.account front
-        (Takes number search.old.matcher search.old.left search.old.records hits.old.hits search.new.left search.new.records hits.new.hits)) }
-    ensures over { (at : ℕ) → result ≡ Err (SearchError.OverBudget at) → (at ≡ search.old.front)
-        × Whatever board.now.shape caller.new.account front (Spends number search.old.matcher search.old.left search.old.records hits.old.hits) }
-{
-    let Ok(read) = load_live(alloc, board, caller, front, number, words) else {
-        return Err(SearchError::OutOfMemory);
-    };
-    if let Some(live) = read {
-        search.take(number, &live.name, &live.mol, hits)?;
-    }
-    Ok(())
-}
-
-// Fills an empty list with the hits among the records of these numbers, which are in order. What it has after an error is open.
+// Fills an empty list. What it has after an error is open.
 fn fill(
     alloc: Global,
     board: &Board,
@@ -115,33 +75,30 @@ fn fill(
     front: u32,
     query: &Query,
     budget: u64,
-    numbers: &[u32],
-    rows: u64,
     hits: &mut HitList,
 ) -> Result<(), SearchError>
     requires fits { IsOf board.now caller.old }
     requires seen { caller.old.account.log.seen ≡ front }
     requires front { front ≤ board.now.shape.log }
-    requires numbers { (i : ℕ) → i < length numbers.now → (0 < slice_index numbers.now i) × (slice_index numbers.now i ≤ front) }
-    requires rising { IsNonDecreasing numbers.now }
-    requires all { Whatever board.now.shape caller.old.account front (AllScreened query.now numbers.now) }
     requires empty { hits.old ≡ no_hits }
     ensures of { IsOf board.now caller.new }
     ensures stock { caller.new.stock ≡ caller.old.stock }
     ensures reads { Reads caller.old.account caller.new.account }
-    ensures once { LoadsOnce caller.old.account caller.new.account (length numbers.now) }
+    ensures once { LoadsOnce caller.old.account caller.new.account front }
     ensures found { OnOk result (AreFound board.now.shape caller.new.account query.now budget front hits.new) }
-    ensures rows { OnOk result (hits.new.rows ≡ rows) }
     ensures over { (at : ℕ) → result ≡ Err (SearchError.OverBudget at) → (at ≡ front) × Replies board.now.shape caller.new.account query.now budget front over_budget }
 {
     let mut search = Search::new(front, query, budget);
     let mut words = [0; 7200];
-    let mut last = 0;
-    for index in 0..numbers.len() {
-        let number = numbers[index];
-        if number > last {
-            take_one(alloc, board, caller, front, number, &mut search, &mut words, hits)?;
-            last = number;
+    let mut rows = 0;
+    for index in 0..front {
+        let number = index + 1;
+        let Ok(read) = load_live(alloc, board, caller, front, number, &mut words) else {
+            return Err(SearchError::OutOfMemory);
+        };
+        if let Some(live) = read {
+            search.take(number, &live.name, &live.mol, hits)?;
+            rows += live.mol.atoms().len() as u64;
         }
     }
     hits.set_counts(rows, search.records());

@@ -5,6 +5,8 @@ use Rattle.board_core.specs.declared.entry.Entry.TheVariants.{Answered}
 use Rattle.board_core.specs.declared.entry.Reply.TheVariants.{Hits, OverBudget}
 use Rattle.searcher.specs.Searched.{IsSearched}
 use Rattle.htss_defs.specs.Reply.{IsReply, found, over_budget}
+use Rattle.reg_model.specs.Searches.{Counts}
+use Rattle.searcher.specs.Searched.{CountsRows}
 use Rattle.searcher.specs.Walking.{Whatever}
 use Rattle.searcher.proofs.Answered.{same_front, search_answered, search_quiet, whatever_noted}
 use Rattle.searcher.proofs.at_front.search.Goals as goal
@@ -36,3 +38,9 @@ returns-in-Err-OutOfMemory-clause-memory c = λ _. (
 
 pub returns-in-Ok-clause-reply : goal.returns-in-Ok-clause-reply
 returns-in-Ok-clause-reply c = whatever_noted c.args.board.now.shape c.fill.new.caller c.note_hits.new.caller (Answered c.args.query.now c.args.budget c.load_front-front.result (Hits c.fill.new.hits.hits) ∷ []) c.load_front-front.result (λ h. IsReply c.args.query.now c.args.budget h (found c.fill.new.hits.hits)) c.note_hits.ensures c.in-Ok.ensures.found.replies.is
+
+pub returns-in-Ok-clause-records : goal.returns-in-Ok-clause-records
+returns-in-Ok-clause-records c = whatever_noted c.args.board.now.shape c.fill.new.caller c.note_hits.new.caller (Answered c.args.query.now c.args.budget c.load_front-front.result (Hits c.fill.new.hits.hits) ∷ []) c.load_front-front.result (λ h. Counts c.args.query.now h c.fill.new.hits.records) c.note_hits.ensures c.in-Ok.ensures.found.screened
+
+pub returns-in-Ok-clause-rows : goal.returns-in-Ok-clause-rows
+returns-in-Ok-clause-rows c = whatever_noted c.args.board.now.shape c.fill.new.caller c.note_hits.new.caller (Answered c.args.query.now c.args.budget c.load_front-front.result (Hits c.fill.new.hits.hits) ∷ []) c.load_front-front.result (λ h. CountsRows h c.fill.new.hits.rows) c.note_hits.ensures c.in-Ok.ensures.found.rows
