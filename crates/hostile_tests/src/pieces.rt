@@ -88,6 +88,9 @@ fn is_same<R: Threads + Wait + Sync + Abort>(
     Ok(())
 }
 
+// The file as a script, on a small board.
+const SCRIPT: [&str; 5] = ["run", "drawn", "--pages=16", "--room=10", "--log=1"];
+
 #[test]
 fn files_in_pieces_are_read_as_whole_ones(rt: HostRuntime) -> Result<(), Fail> {
     let alloc = rt.alloc();
@@ -101,7 +104,7 @@ fn files_in_pieces_are_read_as_whole_ones(rt: HostRuntime) -> Result<(), Fail> {
         is_same(&rt, alloc, &file, &["check", "drawn"], seed)?;
         is_same(&rt, alloc, &file, &["codes", "drawn"], seed)?;
         is_same(&rt, alloc, &file, &["find", "drawn", "co.mol"], seed)?;
-        is_same(&rt, alloc, &file, &["run", "drawn"], seed)?;
+        is_same(&rt, alloc, &file, &SCRIPT, seed)?;
         let query = drawn_query(alloc, &mut draws)?;
         let file = Given {
             name: "drawn",
