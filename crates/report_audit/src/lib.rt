@@ -2,5 +2,7 @@
 #![tactic(auto)]
 
 mod log;
+mod tally;
 
 pub use log::{BrokenEvent, first_broken};
+pub use tally::{Caller, Carried, Tally};
