@@ -4,5 +4,6 @@ pub mod Block
 pub mod Living
 pub mod Recorded
 pub mod Skips
+pub mod Numbered
 pub mod Walks
 pub mod Answered

@@ -2,7 +2,7 @@
 use Rattle.std.proofs.Common.{◌≡◌, ℕ, ◌+◌, ◌-◌, ◌<◌, ◌≤◌, List, [], length, take, slice_index, refl, sym, ap, ◌∙◌, subst, arith}
 use Rattle.std.proofs.lemmas.List.{length-take-le, get_or_default}
 use mathlib.Core.Logic.{dite}
-use native.Mathlib.Decide.{dec_le}
+use native.Mathlib.Decide.{dec_le, ℕ_discrete}
 use Rattle.std.proofs.Common.{lt_of_not-le}
 use Rattle.std.specs.Prelude.{Option, Some, None, Result, Ok, IfSome, Contains}
 use Rattle.std.specs.List.Sorted.{IsNonDecreasing}
@@ -148,6 +148,18 @@ module _ (k : Shape) (a : Account) (query : QueryGraph) (front budget last : ℕ
           let few = seen_within k p a m front seen in
           let none = unscreened query pivot need k p a front numbers last front (subst (λ (g : QueryGraph). Screens g pivot need) w.asked_is screens) m few (all p m) (not_past numbers last front passed) in
           searched_skipped query (take front (history_of k p)) budget left last front count hits.hits early none (w.has p m)
+
+-- ---- the numbers that were passed
+
+pub passed_more : (numbers : List ℕ) (index last number : ℕ) → IsNext numbers index last number → (i : ℕ) → i < index + 1 → slice_index numbers i ≤ number
+passed_more numbers index last number next i below = let after = next.after in let same = next.is in dite (ℕ_discrete i index)
+    (λ e. let here : slice_index numbers i ≡ slice_index numbers index = ap (slice_index numbers) e in omega arith)
+    (λ other. let low = next.passed i (omega arith) in omega arith)
+
+pub passed_one : (numbers : List ℕ) (index last : ℕ) → ((i : ℕ) → i < index → slice_index numbers i ≤ last) → slice_index numbers index ≤ last → (i : ℕ) → i < index + 1 → slice_index numbers i ≤ last
+passed_one numbers index last passed low i below = dite (ℕ_discrete i index)
+    (λ e. let here : slice_index numbers i ≡ slice_index numbers index = ap (slice_index numbers) e in omega arith)
+    (λ other. passed i (omega arith))
 
 -- ---- what the code reads
 

@@ -1,5 +1,5 @@
 -- What a search of the records that a descent has found keeps.
-use Rattle.std.specs.Prelude.{◌≡◌, ℕ, ◌<◌, ◌≤◌, List, length, map, take, slice_index, All, Contains}
+use Rattle.std.specs.Prelude.{◌≡◌, ℕ, ◌+◌, ◌<◌, ◌≤◌, List, length, take, slice_index, Contains}
 use Rattle.htss_defs.specs.declared.shape.Shape.{Shape}
 use Rattle.htss_defs.specs.declared.history.Event.{Event}
 use Rattle.htss_defs.specs.Molecule.{Molecule}
@@ -14,6 +14,7 @@ use Rattle.reg_model.specs.Searches.{Counts, HasSearched, IsOverTo}
 use Rattle.board_core.specs.declared.account.Account.{Account}
 use Rattle.board_core.specs.Words.{Parts}
 use Rattle.board_core.specs.Histories.{history_of}
+use Rattle.board_core.specs.MarkRule.{ShowsAt}
 use Rattle.board_core.specs.Loaded.{Grows, HasFact, HasLoaded, SawMark, IsOpenMark, IsInTable}
 use Rattle.board_core.specs.Steps.{MayBe}
 
@@ -55,6 +56,20 @@ pub record IsReadLive (k : Shape) (a : Account) (front number : ℕ) (name : Lis
   pub marked : IsMarked mol
   pub atoms : length mol.atoms ≤ 999
   pub live : Whatever k a front (λ h. IsLive h number name mol)
+
+-- numbers of the first events
+abbrev pub AreEarly : ℕ → List ℕ → Type 0
+AreEarly front numbers = (i : ℕ) → i < length numbers → (0 < slice_index numbers i) × (slice_index numbers i ≤ front)
+
+-- the number of the event up to the front that publishes the block, or 0, whatever the board is
+pub record IsNumberOf (k : Shape) (a : Account) (front block number : ℕ) : Type 0 where
+  pub early : number ≤ front
+  pub only : (p : Parts) → MayBe k p a → (n : ℕ) → n ≤ front → ShowsAt p.log.front p.log.slots block n → number ≡ n
+  pub shows : (p : Parts) → MayBe k p a → 0 < number → ShowsAt p.log.front p.log.slots block number
+
+-- that number is among these
+abbrev pub AreNumbered : Shape → Account → ℕ → ℕ → List ℕ → Type 0
+AreNumbered k a front block numbers = (p : Parts) → MayBe k p a → (n : ℕ) → n ≤ front → ShowsAt p.log.front p.log.slots block n → Contains numbers n
 
 -- each screened record has one of these numbers
 abbrev pub AllScreened : QueryGraph → List ℕ → List Event → Type 0

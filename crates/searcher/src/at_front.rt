@@ -1,4 +1,4 @@
-// A search at the front: the plain registry's walk over the records that are live.
+// A search at the front: the records that a descent has found are searched by rising number.
 ghost use Rattle.std.specs.Prelude.{◌≡◌, ℕ, ◌<◌, ◌≤◌, [], ◌∷◌, length, slice_index, Err, IfOk, IfErr, OnOk};
 ghost use Rattle.std.specs.List.Sorted.{IsNonDecreasing};
 ghost use Rattle.htss_defs.specs.declared.history.SearchError.{SearchError};
@@ -10,9 +10,12 @@ ghost use Rattle.board_core.specs.declared.entry.Reply.TheVariants.{Hits, OverBu
 ghost use Rattle.board_core.specs.After.{after_answer};
 ghost use Rattle.board_core.specs.Steps.{AreTrue};
 ghost use Rattle.board.specs.Seated.{IsOf, with_account};
-ghost use Rattle.searcher.specs.Searched.{IsSearched, LoadsOnce, SaysOfRows};
+ghost use Rattle.searcher.specs.Searched.{IsSearched, LoadsOnce};
+ghost use Rattle.searcher.specs.Finding.{HasRead, LoadsPruned};
 ghost use Rattle.searcher.specs.Walking.{Reads, Replies, AreFound, AllScreened, Takes, Spends, Whatever};
 
+use crate::finding::find_rows;
+use crate::given::{Rows, numbers_in_order};
 use crate::live::load_live;
 use board::{Answers, Board, Caller, load_front, note_answers};
 use htss_defs::{HitList, Query, SearchError};
@@ -148,11 +151,48 @@ fn fill(
     Ok(())
 }
 
+// Answers at the front that was just loaded: descends, and searches the records that it has found. What the list has after an error is
+// open.
+fn answer(
+    alloc: Global,
+    board: &Board,
+    caller: &mut Caller,
+    front: u32,
+    query: &Query,
+    budget: u64,
+    hits: &mut HitList,
+) -> Result<(), SearchError>
+    requires fits { IsOf board.now caller.old }
+    requires seen { caller.old.account.log.seen ≡ front }
+    requires unpinned { caller.old.account.pool.announced ≡ 0 }
+    requires front { front ≤ board.now.shape.log }
+    requires empty { hits.old ≡ no_hits }
+    ensures of { IsOf board.now caller.new }
+    ensures stock { caller.new.stock ≡ caller.old.stock }
+    ensures reads { HasRead caller.old.account caller.new.account }
+    ensures found { OnOk result (AreFound board.now.shape caller.new.account query.now budget front hits.new) }
+    ensures rows { OnOk result (LoadsPruned query.now caller.old.account caller.new.account hits.new.rows) }
+    ensures over { (at : ℕ) → result ≡ Err (SearchError.OverBudget at) → (at ≡ front) × Replies board.now.shape caller.new.account query.now budget front over_budget
+        × ((rows : ℕ) × LoadsPruned query.now caller.old.account caller.new.account rows) }
+{
+    let mut found = Rows {
+        rows: Vec::new(alloc),
+    };
+    let Ok(rows) = find_rows(board, caller, query, &mut found) else {
+        return Err(SearchError::OutOfMemory);
+    };
+    let Ok(numbers) = numbers_in_order(alloc, board, caller, front, &found.rows) else {
+        return Err(SearchError::OutOfMemory);
+    };
+    fill(alloc, board, caller, front, query, budget, &numbers, rows, hits)
+}
+
 /// Gives the hits of the query among the records that are live at the front, which it loads, by rising number, each with the least
-/// embedding, how many records were screened, and how many atoms all live records have. It answers the front. It is over budget only
-/// where the work of this search exceeds the budget, and always where the screened records have more atoms than that. After an error
-/// the list is empty. It loads each log word at most once, and the words of each live record once (`once` of `IsSearched`); beside that
-/// it costs the search of the screened records. The answer is true of every board that has what the caller has loaded by then.
+/// embedding, how many records were screened, and how many rows were loaded. It answers the front. It is over budget only where the work
+/// of this search exceeds the budget, and always where the screened records have more atoms than that. After an error the list is empty.
+/// It descends in the class tree with the need of the query's pivot: the code words that it loads are pruned (`LoadsPruned`), none is
+/// loaded twice, and it reads the records of the rows that cover, without their codes. It doesn't wait. The answer is true of every
+/// board that has what the caller has loaded by then.
 pub fn search(
     alloc: Global,
     board: &Board,
@@ -168,17 +208,18 @@ pub fn search(
     ensures found { IfOk result (λ f. (caller.old.account.log.seen ≤ f)
         × IsSearched caller.old.account caller.new.account f (Answered query.now budget f (Hits hits.new.hits) ∷ [])) }
     ensures records { IfOk result (λ f. Whatever board.now.shape caller.new.account f (λ h. Counts query.now h hits.new.records)) }
-    ensures rows { IfOk result (λ f. SaysOfRows board.now.shape caller.new.account f hits.new.rows) }
+    ensures rows { IfOk result (λ f. LoadsPruned query.now caller.old.account caller.new.account hits.new.rows) }
     ensures reply { IfOk result (λ f. Whatever board.now.shape caller.new.account f (λ h. IsReply query.now budget h (found hits.new.hits))) }
     ensures over { (at : ℕ) → result ≡ Err (SearchError.OverBudget at) → (caller.old.account.log.seen ≤ at)
         × IsSearched caller.old.account caller.new.account at (Answered query.now budget at OverBudget ∷ [])
-        × Whatever board.now.shape caller.new.account at (λ h. IsReply query.now budget h over_budget) }
+        × Whatever board.now.shape caller.new.account at (λ h. IsReply query.now budget h over_budget)
+        × ((rows : ℕ) × LoadsPruned query.now caller.old.account caller.new.account rows) }
     ensures memory { result ≡ Err SearchError.OutOfMemory → (f : ℕ) × IsSearched caller.old.account caller.new.account f [] }
     ensures empty { IfErr result (λ e. hits.new ≡ no_hits) }
 {
     hits.clear();
     let front = load_front(board, caller);
-    match fill(alloc, board, caller, front, query, budget, hits) {
+    match answer(alloc, board, caller, front, query, budget, hits) {
         Ok(()) => {
             note_hits(board, caller, query, budget, front, hits);
             Ok(front)
