@@ -1,8 +1,8 @@
 -- The lines of the log have their values in range.
-use Rattle.std.proofs.Common.{◌≡◌, ℕ, suc, ◌+◌, ◌-◌, ◌<◌, ◌≤◌, ◌^◌, Bool, true, false, cond, List, length, map, take, get_or, sym, ap, subst, ◌∙◌, All, arith, eq-eqb}
+use Rattle.std.proofs.Common.{◌≡◌, ℕ, ◌+◌, ◌-◌, ◌≤◌, Bool, true, false, cond, List, length, get_or, subst, All, arith, eq-eqb}
 use Rattle.std.specs.Prelude.{Some, slice_get, ◌==◌}
 use Rattle.std.proofs.lemmas.Bool.{false≢true}
-use Rattle.std.proofs.lemmas.List.Elements.{All-from_get_or, All-map}
+use Rattle.std.proofs.lemmas.List.Elements.{All-from_get_or}
 use Rattle.std.proofs.lemmas.Option.{slice_get-get_or}
 use Rattle.htss_defs.specs.declared.history.Event.{Event}
 use Rattle.htss_defs.specs.declared.history.Event.TheVariants.{Publish, Withdraw}
@@ -15,17 +15,16 @@ use Rattle.htss_defs.specs.Shapes.{IsShape}
 use Rattle.report_text.specs.Values.{IsLogLine}
 use Rattle.report_rules.specs.Reports.{log_line, IsByLoader}
 use Rattle.board_core.specs.Blocks.{name_in, molecule_in}
-use Rattle.board_core.specs.Histories.{block_at, event_of, history_of, shown_by}
+use Rattle.board_core.specs.Histories.{block_at, history_of, shown_by}
 use Rattle.board_core.specs.LogWord.{kind_in, loader_in, target_in}
 use Rattle.board_core.specs.Records.{IsRecord}
 use Rattle.board_core.specs.Steps.{Known}
 use Rattle.board_core.specs.Words.{Parts}
 use Rattle.board_core.proofs.EventAt.{event_stands}
-use Rattle.board_core.proofs.Shown.{history_counted}
 
 -- the record of a publication has a name, and as many atoms and bonds as a molecule may have
 record IsOfRecord (name : List ℕ) (mol : Molecule) : Type 0 where
-  pub name : IsName name
+  pub named : IsName name
   pub atoms : length mol.atoms ≤ 999
   pub bonds : length mol.bonds ≤ 999
 
@@ -39,7 +38,7 @@ shown_record block word caller name mol record_is shown = go (kind_in word == 2)
         let named : name_in block ≡ name = cc same in
         let made : molecule_in block ≡ mol = cc same in
         subst (λ (m : Molecule). IsOfRecord name m) made
-        (subst (λ (n : List ℕ). IsOfRecord n (molecule_in block)) named (record { name = r.name; atoms = r.molecule.atoms.1; bonds = r.molecule.bonds }))
+        (subst (λ (n : List ℕ). IsOfRecord n (molecule_in block)) named (record { named = r.name; atoms = r.molecule.atoms.1; bonds = r.molecule.bonds }))
 
 event_line : (k : Shape) (p : Parts) (number : ℕ) (e : Event) → IsShape k → Known k p → HasEvent (history_of k p) number e → IsByLoader k e → IsLogLine (log_line e)
 event_line k p number (Publish caller name mol) shape known has by =
@@ -47,7 +46,7 @@ event_line k p number (Publish caller name mol) shape known has by =
     let some = has.0 in
     let r = shown_record (block_at k p.regions (target_in (p.log.slots (number - 1)))) (p.log.slots (number - 1)) caller name mol
     (known.blocks.records (number - 1) (omega (arith, some, stands.0))) stands.1 in
-    (omega (arith, by.1, (shape Loaders).1), omega (arith, r.atoms), omega (arith, r.bonds), r.name)
+    (omega (arith, by.1, (shape Loaders).1), omega (arith, r.atoms), omega (arith, r.bonds), r.named)
 event_line k p number (Withdraw caller target) shape known has by =
     let stands = event_stands k p number (Withdraw caller target) has in
     let before = (known.legal.earlier number target (record { caller = caller; event = has })).0 in

@@ -19,11 +19,11 @@ unfoldable pub tried : QueryGraph → Molecule → List ℕ → ℕ → ℕ
 tried q m f zero = 0
 tried q m f (suc n) = tried q m f n + branch q m f (suc n)
 
-tried-none : (q : QueryGraph) (m : Molecule) (f : List ℕ) → tried q m f 0 ≡ 0
+pub tried-none : (q : QueryGraph) (m : Molecule) (f : List ℕ) → tried q m f 0 ≡ 0
 unfolding tried
 tried-none q m f = refl
 
-tried-le : (q : QueryGraph) (m : Molecule) (f : List ℕ) (i n : ℕ) → i ≤ n → tried q m f i ≤ tried q m f n
+pub tried-le : (q : QueryGraph) (m : Molecule) (f : List ℕ) (i n : ℕ) → i ≤ n → tried q m f i ≤ tried q m f n
 unfolding tried
 tried-le q m f i zero le = let e : i ≡ 0 = omega arith in rw e (omega arith)
 tried-le q m f i (suc n) le = elim (cases_lt n i) [
@@ -71,7 +71,7 @@ left-next q m f p =
     (arith, length_push f p) in
     ap (λ (k : ℕ). cost_left k q m (f ++ p ∷ [])) e
 
-cost-is : (q : QueryGraph) (m : Molecule) (f : List ℕ) → length f < length q.atoms
+pub cost-is : (q : QueryGraph) (m : Molecule) (f : List ℕ) → length f < length q.atoms
     → cost q m f ≡ length m.atoms + tried q m f (length m.atoms)
 unfolding cost_left branch
 cost-is q m f more =

@@ -8,3 +8,4 @@ pub mod Costs
 pub mod Sets
 pub mod Anchors
 pub mod Steps
+pub mod Counting

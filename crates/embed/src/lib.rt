@@ -3,6 +3,7 @@
 
 mod anchored;
 mod candidates;
+mod count;
 mod extend;
 mod matcher;
 mod placed;
@@ -11,5 +12,5 @@ mod plan;
 mod search;
 mod target;
 
-pub use matcher::{Matcher, first_map, least_map};
+pub use matcher::{Matcher, cost_of, first_map, least_map};
 pub use search::Found;

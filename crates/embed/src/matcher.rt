@@ -1,9 +1,10 @@
-ghost use Rattle.std.specs.Prelude.{◌≡◌, ◌≢◌, ℕ, ◌<◌, [], length, true, false};
+ghost use Rattle.std.specs.Prelude.{◌≡◌, ◌≢◌, ◌↔◌, ℕ, ◌<◌, ◌≤◌, [], length, true, false, Some, None};
 ghost use Rattle.htss_defs.specs.Marked.{IsMarked};
 ghost use Rattle.htss_defs.specs.Embedding.{IsLeastEmbedding, NoEmbedding};
 ghost use Rattle.htss_defs.specs.Cost.{cost};
 ghost use Rattle.embed.specs.Paid.{Paid};
 
+use crate::count::count;
 use crate::placed::Placed;
 use crate::plan::plan_of;
 use crate::search::{Found, search};
@@ -113,6 +114,40 @@ impl<'a> Matcher<'a> {
         }
         found
     }
+
+    /// The cost of the query in the molecule, where it is at most the limit. The bonds of the molecule are marked.
+    pub fn cost_of(&mut self, mol: &Mol, limit: u64) -> Option<u64>
+        requires marked { IsMarked mol.now }
+        ensures some { (c : ℕ) → result ≡ Some c ↔ ((c ≡ cost self.old mol.now []) × (c ≤ limit)) }
+        ensures none { result ≡ None ↔ (limit < cost self.old mol.now []) }
+        ensures same { self.new ≡ self.old }
+    {
+        mol.link(&mut self.bonds);
+        let target = Target {
+            query: self.query,
+            asked: &self.asked,
+            plan: &self.plan,
+            mol,
+            bonds: &self.bonds,
+            price: mol.atoms().len() as u64,
+        };
+        let mut left = limit;
+        let mut map = Placed::new();
+        if count(&target, &mut left, &mut map) {
+            Some(limit - left)
+        } else {
+            None
+        }
+    }
+}
+
+/// The cost of the query in the molecule, where it is at most the limit. The bonds of the molecule are marked.
+pub fn cost_of(query: &Query, mol: &Mol, limit: u64) -> Option<u64>
+    requires marked { IsMarked mol.now }
+    ensures some { (c : ℕ) → result ≡ Some c ↔ ((c ≡ cost query.now mol.now []) × (c ≤ limit)) }
+    ensures none { result ≡ None ↔ (limit < cost query.now mol.now []) }
+{
+    Matcher::new(query).cost_of(mol, limit)
 }
 
 /// Answers true with the least embedding of the query in the molecule, or false with an empty map

@@ -84,8 +84,8 @@ no_rows_yet a block unpinned = record {
   grows = grows_same a;
 }
 
-begun_grows : (k : Shape) (c d : Seated) (row : Row) → HasBegun k c d row → Grows c.account d.account
-begun_grows k c d row h = let seen : d.account.log.seen ≡ c.account.log.seen = ap (λ (x : LogAccount). x.seen) h.log in record {
+begun_grows : (k : Shape) (c d : Seated) (row : Row) (more : List Noted) → d.account.entries ≡ c.account.entries ++ more → HasBegun k c d row → Grows c.account d.account
+begun_grows k c d row more es h = let seen : d.account.log.seen ≡ c.account.log.seen = ap (λ (x : LogAccount). x.seen) h.log in record {
   seen = omega arith;
   shown = λ j x there. subst (λ (l : List ShownLoad). get_elem? l j ≡ some x) (sym h.shown) there;
   heads = h.grows.heads;
@@ -93,6 +93,7 @@ begun_grows k c d row h = let seen : d.account.log.seen ≡ c.account.log.seen =
   facts = λ j x there. subst (λ (l : List WordLoad). get_elem? l j ≡ some x) (sym h.facts) there;
   fronts = λ j x there. subst (λ (l : List ℕ). get_elem? l j ≡ some x) (sym h.fronts) there;
   codes = h.grows.codes;
+  entries = λ j x there. subst (λ (l : List Noted). get_elem? l j ≡ some x) (sym es) (at_longer c.account.entries more j x there);
 }
 
 pub row_placed : (k : Shape) (a : Account) (c d : Seated) (block i : ℕ) → HasRows a c.account block i i [] → HasBegun k c d (row_at block i) → HasPlaced c d (row_at block i) → HasRows a d.account block (i + 1) (i + 1) []
@@ -104,7 +105,7 @@ row_placed k a c d block i rows begun placed = record {
   rows_begun = begun.begun ∙ (ap (λ (l : List Row). l ++ row_at block i ∷ []) rows.rows_begun ∙ one_more a.tree.begun block i);
   rows_placed = placed.placed ∙ (ap (λ (l : List Row). l ++ row_at block i ∷ []) rows.rows_placed ∙ one_more a.tree.placed block i);
   entries = placed.entries ∙ rows.entries;
-  grows = grows_trans a c.account d.account rows.grows (begun_grows k c d (row_at block i) begun);
+  grows = grows_trans a c.account d.account rows.grows (begun_grows k c d (row_at block i) [] (placed.entries ∙ sym (append-nil c.account.entries)) begun);
 }
 
 answered : (k : Shape) (c d : Seated) (row : Row) (e : InsertError) → IsRefusal k c d row e → HasAnswered c d (told_of e)
@@ -145,6 +146,6 @@ row_refused k o c d block atoms i e rows less begun refused =
         rows_begun = begun.begun ∙ (ap (λ (l : List Row). l ++ row_at block i ∷ []) rows.rows_begun ∙ one_more a.tree.begun block i);
         rows_placed = told.placed ∙ rows.rows_placed;
         entries = at_end_noted k c d (row_at block i) e refused ∙ ap (λ (l : List Noted). l ++ noted d.account.loads (told_of e ∷ [])) (rows.entries ∙ append-nil a.entries);
-        grows = grows_trans a c.account d.account rows.grows (begun_grows k c d (row_at block i) begun);
+        grows = grows_trans a c.account d.account rows.grows (begun_grows k c d (row_at block i) (noted d.account.loads (told_of e ∷ [])) (at_end_noted k c d (row_at block i) e refused) begun);
       };
     }

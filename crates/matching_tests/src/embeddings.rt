@@ -1,7 +1,7 @@
 // The least embedding of a query in a molecule, and what looking for it costs.
 use crate::made::{Asked, CARBON_OXYGEN, ETHANOL, ETHER, PROPANE, Sketch, molecule_of, query_of};
 use arrayvec::ArrayVec;
-use embed::{Found, Matcher, first_map, least_map};
+use embed::{Found, Matcher, cost_of, first_map, least_map};
 use htss_defs::AtomTest;
 use std::alloc::Global;
 use std::test::Fail;
@@ -142,5 +142,18 @@ fn asks_in_turn(alloc: Global) -> Result<bool, Fail> {
 #[test]
 fn asks_many_molecules(rt: HostRuntime) -> Result<(), Fail> {
     assert!(rt; asks_in_turn(rt.alloc())?);
+    Ok(())
+}
+
+// A limit, and the cost of carbon and oxygen in ethanol where it is at most that.
+const LIMITS: &[(u64, Option<u64>)] = &[(100, Some(9)), (9, Some(9)), (8, None), (0, None)];
+
+#[test]
+fn counts_up_to_a_limit(rt: HostRuntime) -> Result<(), Fail> {
+    let query = query_of(rt.alloc(), &CARBON_OXYGEN)?;
+    let mol = molecule_of(rt.alloc(), &ETHANOL)?;
+    for (limit, want) in LIMITS {
+        assert!(rt; cost_of(&query, &mol, *limit) == *want, "{limit}");
+    }
     Ok(())
 }

@@ -242,3 +242,44 @@ fn searches_at_each_front(rt: HostRuntime) -> Result<(), Fail> {
     }
     Ok(())
 }
+
+// A front, how many records are screened there, and the hits.
+const FRONTS: &[(u32, u32, &[Want])] = &[
+    (0, 0, &[]),
+    (2, 2, &[AT_ETHANOL, AT_ETHER]),
+    (4, 1, &[AT_ETHER]),
+];
+
+// Whether the registry has these hits at the front.
+fn has_hits(
+    registry: &PlainRegistry,
+    query: &Query,
+    hits: &mut HitList,
+    front: u32,
+    records: u32,
+    want: &[Want],
+) -> bool
+    requires { AreMarked registry.now.events }
+{
+    if registry.events().len() < front as usize {
+        return false;
+    }
+    registry.hits_at(front, query, hits).is_ok()
+        && hits.rows() == 0
+        && hits.records() == records
+        && are_hits(hits.hits(), want)
+}
+
+#[test]
+fn gives_the_hits_at_each_front(rt: HostRuntime) -> Result<(), Fail> {
+    let registry = history(rt.alloc())?;
+    let query = query_of(rt.alloc(), &CARBON_OXYGEN)?;
+    let mut hits = HitList::new(rt.alloc());
+    for (front, records, want) in FRONTS {
+        assert!(rt;
+            has_hits(&registry, &query, &mut hits, *front, *records, want),
+            "{front}"
+        );
+    }
+    Ok(())
+}

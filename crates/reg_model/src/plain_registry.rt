@@ -5,11 +5,13 @@ ghost use Rattle.htss_defs.specs.Marked.{IsMarked};
 ghost use Rattle.htss_defs.specs.History.{IsLegal, IsLive, Withdraws};
 ghost use Rattle.htss_defs.specs.declared.history.SearchError.{SearchError};
 ghost use Rattle.htss_defs.specs.HitLists.{no_hits};
+ghost use Rattle.htss_defs.specs.Hits.{AreHits};
 ghost use Rattle.htss_defs.specs.Reply.{IsReply, found, over_budget};
 ghost use Rattle.reg_model.specs.Searches.{Counts};
 ghost use Rattle.reg_model.specs.Registries.{AreMarked, IsFull, IsPublished, IsWithdrawn, appended};
 
 use crate::search::Search;
+use crate::survey::Survey;
 use htss_defs::{Event, HitList, Mol, Name, OutOfMemory, Query, SearchError};
 use std::alloc::Global;
 use std::marker::Model;
@@ -180,6 +182,44 @@ impl PlainRegistry {
             }
         }
         hits.set_counts(0, search.records());
+        Ok(())
+    }
+
+    /// Gives the hits of the query among the records that are live after the first `front` events, by rising number, each with the least
+    /// embedding, and how many records were screened. After an error the list is empty.
+    pub fn hits_at(&self, front: u32, query: &Query, hits: &mut HitList) -> Result<(), OutOfMemory>
+        requires front { front ≤ length self.now.events }
+        requires marked { AreMarked self.now.events }
+        ensures found { OnOk result (AreHits query.now (take front self.now.events) hits.new.hits) }
+        ensures rows { OnOk result (hits.new.rows ≡ 0) }
+        ensures records { OnOk result (Counts query.now (take front self.now.events) hits.new.records) }
+        ensures empty { OnErr result (hits.new ≡ no_hits) }
+    {
+        hits.clear();
+        let answer = self.survey(front, query, hits);
+        if answer.is_err() {
+            hits.clear();
+        }
+        answer
+    }
+
+    // Fills an empty list. What it has after an error is open.
+    fn survey(&self, front: u32, query: &Query, hits: &mut HitList) -> Result<(), OutOfMemory>
+        requires front { front ≤ length self.now.events }
+        requires marked { AreMarked self.now.events }
+        requires empty { hits.old ≡ no_hits }
+        ensures found { OnOk result (AreHits query.now (take front self.now.events) hits.new.hits) }
+        ensures rows { OnOk result (hits.new.rows ≡ 0) }
+        ensures records { OnOk result (Counts query.now (take front self.now.events) hits.new.records) }
+    {
+        let mut survey = Survey::new(query);
+        for index in 0..front {
+            let number = index + 1;
+            if let Some(live) = self.live_record(number, front) {
+                survey.take(number, live.name, live.mol, hits)?;
+            }
+        }
+        hits.set_counts(0, survey.records());
         Ok(())
     }
 

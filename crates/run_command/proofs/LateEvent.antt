@@ -1,7 +1,6 @@
 -- A report where a line of group 1 says that the log is full, and a line of group 2 adds the event that fills it, breaks the rule of the second line.
-use Rattle.std.proofs.Common.{◌<◌, ℕ, List, [], ◌∷◌, arith}
+use Rattle.std.proofs.Common.{◌<◌, [], ◌∷◌, arith}
 use Rattle.htss_defs.specs.declared.shape.Shape.{Shape}
-use Rattle.htss_defs.specs.declared.history.Event.{Event}
 use Rattle.htss_defs.specs.declared.history.Event.TheVariants.{Publish}
 use Rattle.htss_defs.specs.declared.record.NamedMol.{NamedMol}
 use Rattle.report_rules.specs.Answers.{to_record, published, log_full, taken}

@@ -128,9 +128,10 @@ pub(crate) struct Done {
     pub(crate) failed: bool,
 }
 
-// One loader takes all pages that it is given. Its caller goes to the others, and what it has done is told.
+// The caller of one loader goes to the others, and what it has done is told. Before that it takes all pages that it is given, if it should.
 fn end_one(
     board: &Board,
+    takes: bool,
     mut loading: Loading,
     callers: &mut Vec<Caller>,
     done: &mut Vec<Done>,
@@ -140,7 +141,9 @@ fn end_one(
     ensures callers { IfOk result (λ _. All (IsAtRest board.now) callers.new.items) }
     ensures count { IfOk result (λ _. length callers.new.items ≡ length callers.old.items + 1) }
 {
-    take_all(board, &mut loading)?;
+    if takes {
+        take_all(board, &mut loading)?;
+    }
     let Loading {
         caller,
         tries,
@@ -156,9 +159,10 @@ fn end_one(
     Ok(())
 }
 
-// Each of the loaders takes all pages that it is given, one after the other. Their callers go to the others.
+// The callers of the loaders go to the others, one after the other.
 fn end_all(
     board: &Board,
+    takes: bool,
     loadings: Vec<Loading>,
     callers: &mut Vec<Caller>,
     done: &mut Vec<Done>,
@@ -169,13 +173,18 @@ fn end_all(
     ensures count { IfOk result (λ _. length callers.new.items ≡ length loadings.items + length callers.old.items) }
 {
     for loading in loadings {
-        end_one(board, loading, callers, done)?;
+        end_one(board, takes, loading, callers, done)?;
     }
     Ok(())
 }
 
-// Each loader takes all pages that it is given, and the board is closed. Answers what each loader has done.
-pub(crate) fn close(alloc: Global, board: Board, crowd: Crowd) -> Result<(Final, Vec<Done>), Fail>
+// Each loader takes all pages that it is given, if they should, and the board is closed. Answers what each loader has done.
+pub(crate) fn close(
+    alloc: Global,
+    board: Board,
+    takes: bool,
+    crowd: Crowd,
+) -> Result<(Final, Vec<Done>), Fail>
     requires loadings { All (λ l. IsLoading board l.caller) crowd.loadings.items }
     requires searchers { All (IsAtRest board) crowd.searchers.items }
     requires count { length crowd.loadings.items + length crowd.searchers.items ≡ board.shape.loaders + board.shape.searchers }
@@ -185,7 +194,7 @@ pub(crate) fn close(alloc: Global, board: Board, crowd: Crowd) -> Result<(Final,
         searchers: mut callers,
     } = crowd;
     let mut done = Vec::new(alloc);
-    end_all(&board, loadings, &mut callers, &mut done)?;
+    end_all(&board, takes, loadings, &mut callers, &mut done)?;
     if callers.is_empty() {
         return Err("no caller".into());
     }

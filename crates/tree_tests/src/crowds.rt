@@ -20,7 +20,7 @@ pub(crate) fn tally_of<R: Threads + Wait + Sync>(
 ) -> Result<Tally, Fail> {
     let (board, mut crowd) = open(alloc, shape)?;
     load(rt, alloc, &board, crowd.loadings.as_mut_slice(), sketches);
-    let (last, done) = close(alloc, board, crowd)?;
+    let (last, done) = close(alloc, board, true, crowd)?;
     let pages = pages_of(alloc, &last)?;
     let walk = walk_of(alloc, pages.as_slice())?;
     check_pages(pages.as_slice(), &walk, done.as_slice())?;
@@ -39,7 +39,7 @@ fn shape_of(loaders: u8, pages: u32, chain: u32) -> Shape {
 }
 
 // Pools and chains, from tiny ones to such as hold all.
-const POOLS: [(u32, u32); 5] = [(16, 2), (17, 65_535), (24, 2), (40, 3), (2000, 65_535)];
+const POOLS: [(u32, u32); 5] = [(16, 2), (24, 65_535), (50, 2), (120, 3), (4000, 65_535)];
 
 #[test]
 fn each_row_is_found_once(rt: HostRuntime) -> Result<(), Fail> {
@@ -49,7 +49,7 @@ fn each_row_is_found_once(rt: HostRuntime) -> Result<(), Fail> {
             let sketches = drawn_sketches(alloc, seed, 100)?;
             let tally = tally_of(&rt, alloc, shape_of(4, pages, chain), sketches.as_slice())?;
             assert_eq!(rt; tally.published.wrapping_add(tally.refused), 100);
-            assert!(rt; pages < 2000 || tally.refused == 0);
+            assert!(rt; pages < 4000 || tally.refused == 0);
         }
     }
     Ok(())
@@ -60,7 +60,7 @@ fn each_row_is_found_once(rt: HostRuntime) -> Result<(), Fail> {
 fn each_row_is_found_once_where_all_meet(rt: HostRuntime) -> Result<(), Fail> {
     let alloc = rt.alloc();
     let sketches = forked_sketches(alloc, 8)?;
-    for pages in [32, 64, 100, 4000] {
+    for pages in [32, 64, 120, 4000] {
         let tally = tally_of(&rt, alloc, shape_of(8, pages, 65_535), sketches.as_slice())?;
         assert_eq!(rt; tally.published.wrapping_add(tally.refused), 120);
         assert!(rt; pages < 4000 || tally.rows == 720);

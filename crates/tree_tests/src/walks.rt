@@ -4,7 +4,7 @@ use std::alloc::Global;
 use std::test::Fail;
 
 // From this depth on a full leaf goes on at its next page.
-const CHAINED: usize = 0;
+const CHAINED: usize = 5;
 
 // The first codes of a row.
 #[derive(Clone, Copy, Debug, PartialEq, Eq, Drop)]

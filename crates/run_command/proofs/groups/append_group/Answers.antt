@@ -23,7 +23,7 @@ returns-clause-done g c =
       c.in_ok-blocks.blocks.items,
       c.in_ok-blocks.ensures.done,
       text
-          ∙ ap (λ (bs : List Block). c.append_header.new.text.items ++ flat_map block_text bs) c.deref.ensures.value
+          ∙ ap (λ (bs : List Block). c.append_header.new.text.items ++ flat_map block_text bs) c.deref-2.ensures.value
           ∙ ap (λ (t : List ℕ). t ++ flat_map block_text c.in_ok-blocks.blocks.items) (c.in_ok-append_header.ensures.ok ∙ ap (λ (k : Shape). with_header c.args.text.now.items k c.args.budget) c.shape.ensures.value),
       subst (All IsTypedBlock) c.deref.ensures.value c.are_typed.ensures,
     ))

@@ -9,7 +9,7 @@ pub loop-group-init : goal.loop-group-init
 loop-group-init g c = record {
   callers = c.requires.callers;
   goes_on = search rules;
-  done = λ script read. none_done (g.F.Shelf.told c.args.shelf.now) c.args.board.now.shape c.args.budget (accounts_of c.args.workers.now) c.args.text.now.items c.requires.new c.requires.empty c.ranges.budget;
+  done = λ script read. none_done (g.F.Shelf.told c.args.shelf.now) c.args.board.now.shape c.args.budget (accounts_of c.args.workers.now) c.args.text.now.items c.requires.new c.requires.empty (search rules);
 }
 
 pub returns-in_err-do_group-clause-stop : goal.returns-in_err-do_group-clause-stop
