@@ -5,5 +5,7 @@ pub mod Living
 pub mod Recorded
 pub mod Skips
 pub mod Numbered
+pub mod Found
+pub mod Complete
 pub mod Walks
 pub mod Answered

@@ -82,9 +82,12 @@ pub record IsNext (numbers : List ℕ) (index last number : ℕ) : Type 0 where
 -- so no record between them is screened
 unscreened : (q : QueryGraph) (pivot : ℕ) (need : Need) (k : Shape) (p : Parts) (a : Account) (front : ℕ) (numbers : List ℕ) (last next : ℕ) → Screens q pivot need → MayBe k p a → front ≤ length (history_of k p) → AllScreened q numbers (take front (history_of k p))
     → ((n : ℕ) → last < n → n ≤ next → Contains numbers n → ⊥) → AreUnscreened q (take front (history_of k p)) last next
-unscreened q pivot need k p a front numbers last next screens m few all apart = record { none = none; embeds = λ number name mol past within live.
-    let marked = live_marked k p a front number name mol m few live in
-    screens.none mol marked.0 marked.1 (none number name mol past within live) }
+unscreened q pivot need k p a front numbers last next screens m few all apart = record {
+  none = none;
+  embeds = λ number name mol past within live.
+      let marked = live_marked k p a front number name mol m few live in
+      screens.none mol marked.0 marked.1 (none number name mol past within live);
+}
   where
     none : (number : ℕ) (name : List ℕ) (mol : Molecule) → last < number → number ≤ next → IsLive (take front (history_of k p)) number name mol → IsScreened q mol → ⊥
     none number name mol past within live is = apart number past within (all number name mol live is)

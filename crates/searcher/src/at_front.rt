@@ -143,7 +143,16 @@ fn fill(
     for index in 0..numbers.len() {
         let number = numbers[index];
         if number > last {
-            take_one(alloc, board, caller, front, number, &mut search, &mut words, hits)?;
+            take_one(
+                alloc,
+                board,
+                caller,
+                front,
+                number,
+                &mut search,
+                &mut words,
+                hits,
+            )?;
             last = number;
         }
     }
@@ -184,7 +193,9 @@ fn answer(
     let Ok(numbers) = numbers_in_order(alloc, board, caller, front, &found.rows) else {
         return Err(SearchError::OutOfMemory);
     };
-    fill(alloc, board, caller, front, query, budget, &numbers, rows, hits)
+    fill(
+        alloc, board, caller, front, query, budget, &numbers, rows, hits,
+    )
 }
 
 /// Gives the hits of the query among the records that are live at the front, which it loads, by rising number, each with the least

@@ -1,5 +1,5 @@
 // A descent with the need of the query's pivot, between a pin and an unpin.
-ghost use Rattle.std.specs.Prelude.{◌≡◌, ℕ, IfOk, IfErr};
+ghost use Rattle.std.specs.Prelude.{◌≡◌, ℕ, [], IfOk, IfErr};
 ghost use Rattle.htss_defs.specs.Needs.{need_at};
 ghost use Rattle.htss_defs.specs.Screened.{IsPivot};
 ghost use Rattle.board.specs.Seated.{IsOf};
@@ -7,34 +7,10 @@ ghost use Rattle.searcher.specs.Finding.{HasFound, Visits};
 
 use crate::given::Rows;
 use board::{Board, Caller};
-use descent::{RowSink};
+use descent::descend;
 use env_cover::{need_of, pivot};
 use htss_defs::{Need, OutOfMemory, Query};
 use page_pool::{pin, unpin};
-
-ghost use Rattle.std.specs.Prelude.{◌<◌, [], ◌∷◌};
-ghost use Rattle.board_core.specs.After.{root};
-ghost use Rattle.board_core.specs.Boards.{SomeBoard};
-ghost use Rattle.descent.specs.Standing.{OnlyLoads};
-ghost use Rattle.descent.specs.Answered.{HasSwept};
-
-// STUB
-fn descend<S: RowSink>(
-    board: &Board,
-    caller: &mut Caller,
-    need: &Need,
-    sink: &mut S,
-) -> Result<u64, OutOfMemory>
-    requires fits { IsOf board.now caller.old }
-    requires pinned { 0 < caller.old.account.pool.announced }
-    requires fresh { caller.old.account.tree.reached ≡ root ∷ [] }
-    requires empty { S.given sink.old ≡ [] }
-    ensures swept { IfOk result (λ n. HasSwept board.now.shape need.now caller.old caller.new (S.given sink.new) n) }
-    ensures board { IfOk result (λ _. SomeBoard board.now.shape caller.new.account) }
-    ensures cut { IfErr result (λ _. OnlyLoads caller.old caller.new) }
-{
-    Err(OutOfMemory)
-}
 
 // The need of the query's pivot.
 fn pivot_need(query: &Query) -> Need

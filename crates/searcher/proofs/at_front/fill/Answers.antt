@@ -80,15 +80,15 @@ loop-index-preserved c =
                 w.take_one.ensures.asked w.take_one.ensures.front w.take_one.ensures.room w.in_ok-take_one.ensures.takes;
           })
       | else-number-last w ↦ rw (w.caller-is, w.hits-is, w.search-is, w.words-is, w.last-is) record {
-            of = i.of;
-            stock = i.stock;
-            reads = i.reads;
-            once = once_fewer first a index (index + 1) (omega arith) i.once;
-            size = i.size;
-            early = i.early;
-            passed = passed_one c.args.numbers.now index c.loop-index.last i.passed w.if-number-last.false;
-            walked = i.walked;
-          }
+        of = i.of;
+        stock = i.stock;
+        reads = i.reads;
+        once = once_fewer first a index (index + 1) (omega arith) i.once;
+        size = i.size;
+        early = i.early;
+        passed = passed_one c.args.numbers.now index c.loop-index.last i.passed w.if-number-last.false;
+        walked = i.walked;
+      }
     ]
 
 pub returns-clause-found : goal.returns-clause-found

@@ -1,4 +1,4 @@
-use Rattle.std.proofs.Common.{◌≡◌, ℕ, ◌≤◌, List, length, sym, subst}
+use Rattle.std.proofs.Common.{◌≡◌, ◌≤◌, length, arith}
 use Rattle.std.proofs.lemmas.List.Sorted.{IsNonDecreasingBy-from_sort}
 use Rattle.searcher.proofs.Numbered.{early_shuffled, numbered_shuffled}
 use Rattle.searcher.proofs.given.numbers_in_order.Goals as goal
@@ -8,7 +8,7 @@ returns-clause-early c =
     let few = c.in_ok-numbers.ensures.early.1 in
     let same = c.sort_unstable.ensures.len in (
       early_shuffled c.args.front c.in_ok-numbers.numbers.items c.sort_unstable.new.self.items c.sort_unstable.ensures.permutation c.in_ok-numbers.ensures.early.0,
-      subst (λ (n : ℕ). n ≤ length c.args.rows.now) (sym same) few,
+      omega arith,
     )
 
 pub returns-clause-all : goal.returns-clause-all

@@ -1,10 +1,10 @@
-use Rattle.std.proofs.Common.{◌≡◌, ℕ, ◌+◌, ◌<◌, ◌≤◌, [], length, get_or, refl, sym, ap, ◌∙◌, subst, arith}
+use Rattle.std.proofs.Common.{◌≡◌, ℕ, ◌+◌, ◌<◌, ◌≤◌, List, [], ◌∷◌, ◌++◌, length, get_or, refl, sym, ap, ◌∙◌, subst, arith}
 use Rattle.std.proofs.lemmas.List.{length_push}
-use Rattle.std.specs.Prelude.{Contains}
 use Rattle.board_core.specs.declared.room.Row.{Row}
 use Rattle.searcher.proofs.Read.{reads_trans}
 use Rattle.searcher.proofs.Once.{loads_both}
-use Rattle.searcher.proofs.Numbered.{rows_stay, numbered_more, numbered_passed, numbered_all, early_more, row_at}
+use Rattle.searcher.proofs.Numbered.{rows_stay, numbered_more, numbered_passed, numbered_all, early_more, row_at, AreNumberedTo}
+use Rattle.searcher.specs.Walking.{AreEarly}
 use Rattle.searcher.proofs.given.numbers_of.Goals.{then-number-gt0+in_ok-push, else-number-gt0}
 use Rattle.searcher.proofs.given.numbers_of.Goals as goal
 
@@ -42,8 +42,32 @@ loop-index-preserved c =
     let known = rows_stay k a b rows grown i.known in
     let once = loads_both first a b 0 0 index 1 0 0 [] [] i.once c.number_of-number.ensures.once in
     elim c.if-number-gt0.branch [
-      | then-number-gt0+in_ok-push w ↦ ?
-      | else-number-gt0 w ↦ ?
+      | then-number-gt0+in_ok-push w ↦
+          (let more : c.if-number-gt0.numbers.items ≡ numbers ++ number ∷ [] = ap (λ v. v.items) w.numbers-is ∙ w.in_ok-push.ensures.items in
+          let long = length_push numbers number in
+          let few = i.few in record {
+            of = c.number_of-number.ensures.of;
+            stock = c.number_of-number.ensures.stock ∙ i.stock;
+            reads = reads;
+            known = known;
+            once = once;
+            few = subst (λ (l : List ℕ). length l ≤ index + 1) (sym more) (omega arith);
+            early = subst (AreEarly c.args.front) (sym more) (early_more c.args.front number numbers i.early w.if-number-gt0.true c.number_of-number.ensures.number.early);
+            all = subst (AreNumberedTo k b c.args.front rows (index + 1)) (sym more) (numbered_more k a b c.args.front index number rows row numbers grown here c.number_of-number.ensures.number i.all);
+          })
+      | else-number-gt0 w ↦
+          (let same : c.if-number-gt0.numbers.items ≡ numbers = ap (λ v. v.items) w.numbers-is in
+          let few = i.few in
+          let none_here = w.if-number-gt0.false in record {
+            of = c.number_of-number.ensures.of;
+            stock = c.number_of-number.ensures.stock ∙ i.stock;
+            reads = reads;
+            known = known;
+            once = once;
+            few = subst (λ (l : List ℕ). length l ≤ index + 1) (sym same) (omega arith);
+            early = subst (AreEarly c.args.front) (sym same) i.early;
+            all = subst (AreNumberedTo k b c.args.front rows (index + 1)) (sym same) (numbered_passed k a b c.args.front index number rows row numbers grown here (omega arith) c.number_of-number.ensures.number i.all);
+          })
     ]
 
 pub returns-clause-all : goal.returns-clause-all
