@@ -62,7 +62,7 @@ past_not_live h front number past name mol live = past_not_published h front num
 
 -- ---- the event of a publication's word
 
-publication_shown : (k : Shape) (regions : ℕ → ℕ) (word block : ℕ) → ¬ (kind_in word ≡ 2) → target_in word ≡ block → event_of k regions word ≡ Publish (loader_in word) (name_in (block_at k regions block)) (molecule_in (block_at k regions block))
+pub publication_shown : (k : Shape) (regions : ℕ → ℕ) (word block : ℕ) → ¬ (kind_in word ≡ 2) → target_in word ≡ block → event_of k regions word ≡ Publish (loader_in word) (name_in (block_at k regions block)) (molecule_in (block_at k regions block))
 publication_shown k regions word block other names =
     let shown : ℕ → Event = λ z. Publish (loader_in word) (name_in (block_at k regions z)) (molecule_in (block_at k regions z)) in
     ap (λ (b : Bool). cond b (Withdraw (loader_in word) (target_in word)) (shown (target_in word))) (ne_eqb (kind_in word) 2 other) ∙ ap shown names

@@ -13,8 +13,6 @@ use Rattle.report_rules.specs.Answers.{Answer, to_record, to_search, to_withdraw
 use Rattle.report_rules.specs.Answers.{published, no_room, no_page, chain_full, log_full}
 use Rattle.report_rules.specs.Answers.{not_accepted, taken, not_read, hits_at, over_at}
 use Rattle.report_rules.specs.Rules.{Line, number_of, KeepsAnswer}
-use Rattle.searcher.specs.Searched.{CountsRows}
-use Rattle.board_jobs.specs.Rows.{HasItsRows}
 use Rattle.board_core.proofs.BlockCauses.{event_in_first, withdraws_in_first}
 
 module _ (k : Shape) (h : List Event) (front : ℕ) (few : front ≤ length h) where
@@ -55,10 +53,3 @@ module _ (k : Shape) (h : List Event) (front : ℕ) (few : front ≤ length h) w
   )
   keeps_cut earlier line (to_search (over_at asked budget x)) seen keeps =
       (within_first x (only x seen), of_first (λ first. IsReply asked budget first over_budget) x (only x seen) keeps.1, keeps.2)
-
-  pub rows_cut : (answer : Answer) → All (λ mark. mark ≤ front) (numbers_of answer ++ fronts_of answer) → HasItsRows h answer → HasItsRows (take front h) answer
-  rows_cut (to_record answer) seen rows_are = tt
-  rows_cut (to_withdrawal number answer) seen rows_are = tt
-  rows_cut (to_search (not_read at code)) seen rows_are = tt
-  rows_cut (to_search (hits_at asked budget x hits rows records)) seen rows_are = of_first (λ first. CountsRows first rows) x (only x seen) rows_are
-  rows_cut (to_search (over_at asked budget x)) seen rows_are = tt

@@ -18,7 +18,6 @@ use Rattle.board_core.specs.Histories.{history_of}
 use Rattle.board_core.specs.Truths.{IsTrueLog}
 use Rattle.board_jobs.specs.Telling.{entries_in, tells}
 use Rattle.board_jobs.specs.Answering.{IsAnswered}
-use Rattle.board_jobs.specs.Rows.{HasItsRows}
 use Rattle.board_jobs.proofs.Chained.{answered_entries}
 use Rattle.board_jobs.proofs.Places.{each_behind}
 use Rattle.board_jobs.proofs.Marks.{IsOwn, Before, new_is, refusing_is, search_is}
@@ -54,14 +53,6 @@ module _ (k : Shape) (p : Parts) where
   owns_are (loader number) answer may told = owns_told number answer told
   owns_are (searcher number) answer none told = All-same (IsOwn (history_of k p) (searcher number)) (own_number answer) [] none (All-nil (IsOwn (history_of k p) (searcher number)))
 
-  -- its rows are those of the records that it read
-  pub rows_are : (caller : Caller) (a b : Account) (answer : Answer) → IsAnswered k caller a b answer → Stands k p b → HasItsRows (history_of k p) answer
-  rows_are caller a b (to_record answer) is s = tt
-  rows_are caller a b (to_withdrawal number answer) is s = tt
-  rows_are caller a b (to_search (not_read at code)) is s = tt
-  rows_are caller a b (to_search (hits_at asked budget front hits rows records)) is s = is.says.1 p s.may
-  rows_are caller a b (to_search (over_at asked budget front)) is s = tt
-
   -- the first of marks that all have the fact
   first_of : (P : ℕ → Type 0) (x : ℕ) → All P (x ∷ []) → P x
   first_of P x all = All-head P x [] all
@@ -92,7 +83,7 @@ module _ (k : Shape) (p : Parts) where
   answer_keeps earlier line a b (to_search (not_read at code)) is s before told owns = tt
   answer_keeps earlier line a b (to_search (hits_at asked budget front hits rows records)) is s before told owns =
       let t = told 0 (entry.Answered asked budget front (Hits hits)) refl in
-      (t.0, t.1, is.says.0 p s.may, search_is (history_of k p) earlier line a front before (first_of (λ n. a.log.seen ≤ n) front is.fronts))
+      (t.0, t.1, is.says p s.may, search_is (history_of k p) earlier line a front before (first_of (λ n. a.log.seen ≤ n) front is.fronts))
   answer_keeps earlier line a b (to_search (over_at asked budget front)) is s before told owns =
       let t = told 0 (entry.Answered asked budget front OverBudget) refl in
       (t.0, t.1, search_is (history_of k p) earlier line a front before (first_of (λ n. a.log.seen ≤ n) front is.fronts))

@@ -22,12 +22,11 @@ use Rattle.board_core.proofs.Lists.{each_kept, inside}
 use Rattle.board_jobs.specs.Answering.{IsAnswered, Says}
 use Rattle.board_jobs.specs.Groups.{place_of, with_seen, HaveMet, AreNew}
 use Rattle.board_jobs.specs.Rooms.{HadRoom, HaveHadRoom}
-use Rattle.board_jobs.specs.Rows.{HasItsRows, HaveTheirRows}
 use Rattle.board_jobs.specs.Telling.{tells}
 use Rattle.board_jobs.proofs.Places.{at_map, at_set, map_back, set_else, set_here}
 use Rattle.board_jobs.proofs.Marks.{AreSeen, IsOwn, Before, all_later}
 use Rattle.board_jobs.proofs.Stand.{Stands}
-use Rattle.board_jobs.proofs.Keeping.{MayOwn, told_true, owns_are, rows_are, answer_keeps}
+use Rattle.board_jobs.proofs.Keeping.{MayOwn, told_true, owns_are, answer_keeps}
 use Rattle.board_jobs.proofs.Fits.{IsCaller, one_place, same_caller, other_caller}
 
 -- the account of the line's caller has seen its marks
@@ -36,14 +35,13 @@ pub record HasSeen (k : Shape) (accounts : List Account) (line : Line) : Type 0 
   pub there : get_elem? accounts (place_of k line.caller) ≡ some by
   pub seen : AreSeen by.log.seen line
 
--- each line keeps its rule, and what it used had room; none is of a group after this one; searches have their rows; callers have seen the
+-- each line keeps its rule, and what it used had room; none is of a group after this one; callers have seen the
 -- marks of their lines, and all have seen those of groups before this one; own numbers are of own events; and the words that a caller's
 -- lines have used are those in use
 pub record Kept (k : Shape) (h : List Event) (group : ℕ) (accounts : List Account) (lines : List Line) : Type 0 where
   pub rules : (earlier later : List Line) (line : Line) → lines ≡ earlier ++ line ∷ later → KeepsRule k h earlier line
   pub until : All (λ line. line.group ≤ group) lines
   pub rooms : HaveHadRoom k lines
-  pub rows : HaveTheirRows h lines
   pub own : All (HasSeen k accounts) lines
   pub old : All (λ line. line.group < group → Each (λ a. AreSeen a.log.seen line) accounts) lines
   pub owns : All (λ line. All (IsOwn h line.caller) (own_number line.answer)) lines
@@ -100,7 +98,6 @@ kept_new k h accounts new = record {
   rules = λ earlier later line none. absurd (no_tail earlier later line none);
   until = All-nil (λ line. line.group ≤ 1);
   rooms = λ earlier later line none. absurd (no_tail earlier later line none);
-  rows = All-nil (λ line. HasItsRows h line.answer);
   own = All-nil (HasSeen k accounts);
   old = All-nil (λ line. line.group < 1 → Each (λ a. AreSeen a.log.seen line) accounts);
   owns = All-nil (λ line. All (IsOwn h line.caller) (own_number line.answer));
@@ -180,7 +177,6 @@ module _ (k : Shape) (p : Parts) (group : ℕ) (accounts : List Account) (lines 
               (λ (t : (lines ≡ earlier) × (line ≡ one)). subst (λ e. HadRoom k e one) t.0 (subst (λ x. HadRoom k lines x) t.1 (had_room answered)))
               (λ (t : (rest : List Line) × (lines ≡ earlier ++ one ∷ rest)). kept.rooms earlier t.0 one t.1)
               (split_last lines earlier later line one split);
-          rows = All-push (λ one. HasItsRows (history_of k p) one.answer) lines line kept.rows (rows_are k p line.caller a b line.answer answered stands);
           own = All-push (HasSeen k left) lines line (All-weaker (HasSeen k accounts) (HasSeen k left) (seen_more more) lines kept.own) (record { by = b; there = put; seen = answered.marks });
           old = All-push (λ one. one.group < group → Each (λ x. AreSeen x.log.seen one) left) lines line
               (λ i d within early. each_kept (λ (x : Account). AreSeen x.log.seen (get_or lines i d)) accounts (place_of k line.caller) b
@@ -203,7 +199,6 @@ module _ (k : Shape) (p : Parts) (group : ℕ) (accounts : List Account) (lines 
     rules = kept.rules;
     until = All-weaker (λ one. one.group ≤ group) (λ one. one.group ≤ group + 1) (λ one within. omega (arith, within)) lines kept.until;
     rooms = kept.rooms;
-    rows = kept.rows;
     own = All-weaker (HasSeen k accounts) (HasSeen k (map (with_seen front) accounts)) (met_own front most) lines kept.own;
     old = λ i d within early j x there.
         let back = map_back (with_seen front) accounts j x there in

@@ -36,6 +36,7 @@ refused-answers k a line code c who = record {
   fronts = all_none _;
   used = omega arith;
   says = tt;
+  rows = tt;
   grows = grows_same a;
 }
 

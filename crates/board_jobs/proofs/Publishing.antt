@@ -115,6 +115,7 @@ full-answers k a d s front is later full room c who =
       fronts = all_one (λ mark. a.log.seen ≤ mark) front before;
       used = is.used;
       says = (full, has_room k a s room);
+      rows = tt;
       grows = grows_trans a (locked d front) b (grows_locked a d s front is later) (grows_quiet (locked d front) b (omega arith) refl (entries_added (locked d front) b (noted (locked d front).loads (LogFull front ∷ [])) refl));
     }
 
@@ -135,6 +136,7 @@ published-answers k a d s front is later room c who =
       fronts = all_none _;
       used = is.used;
       says = has_room k a s room;
+      rows = tt;
       grows = grows_trans a (locked d front) b (grows_locked a d s front is later) (grows_quiet (locked d front) b (omega arith) refl (λ j x there. at_longer (d.entries ++ noted b.loads (told ∷ [])) [] j x (at_longer d.entries (noted b.loads (told ∷ [])) j x there)));
     }
 
@@ -225,6 +227,7 @@ room-answers k a s left need room full c who =
       fronts = all_none _;
       used = omega arith;
       says = (full.need_is ∙ block_size (named s), less, omega (arith, left_is, room));
+      rows = tt;
       grows = grows_quiet a b (omega arith) refl (entries_added a b (noted a.loads (DataFull left need ∷ [])) refl);
     }
 
@@ -238,6 +241,7 @@ page-answers k a d s room is c who = let seen : d.log.seen ≡ a.log.seen = ap (
   fronts = all_none _;
   used = is.used;
   says = has_room k a s room;
+  rows = tt;
   grows = is.grows;
 }
 
@@ -251,6 +255,7 @@ chain-answers k a d s pages all room is c who = let seen : d.log.seen ≡ a.log.
   fronts = all_none _;
   used = is.used;
   says = (all, has_room k a s room);
+  rows = tt;
   grows = is.grows;
 }
 

@@ -25,12 +25,11 @@ use Rattle.board_jobs.specs.Answering.{AreAnswered}
 use Rattle.board_jobs.specs.Groups.{place_of, AreDone, AreGroupsDone, AreNew}
 use Rattle.board_jobs.specs.Ends.{HaveGoneOn, IsEnd}
 use Rattle.board_jobs.specs.Rooms.{HaveHadRoom}
-use Rattle.board_jobs.specs.Rows.{HaveTheirRows}
 use Rattle.board_jobs.proofs.Places.{elem_at, set_here, set_same, set_twice}
 use Rattle.board_jobs.proofs.Marks.{AreSeen, all_right}
 use Rattle.board_jobs.proofs.Stand.{Stands, stands_all, stand_jobs, stand_met, stand_groups, stand_middle}
 use Rattle.board_jobs.proofs.Keeping.{MayOwn}
-use Rattle.board_jobs.proofs.Cut.{keeps_cut, rows_cut}
+use Rattle.board_jobs.proofs.Cut.{keeps_cut}
 use Rattle.board_jobs.proofs.Fits.{IsCaller, AllFit, all_fit}
 use Rattle.board_jobs.proofs.Kept.{HasSeen, Kept, kept_new, kept_answer, kept_met}
 
@@ -111,16 +110,6 @@ module _ (k : Shape) (files : List (ℕ × List ℕ)) (budget : ℕ) (groups : L
   -- what each line has used had room
   pub roomed : IsShape k → AreNew k before → AreGroupsDone k files budget 1 groups before middle front done → HaveGoneOn k middle last → IsEnd k p last → HaveHadRoom k (flat_map done_lines done)
   roomed shape new are gone end = (all_kept shape new are gone end).1.rooms
-
-  -- each search has its rows
-  pub rowed : IsShape k → AreNew k before → AreGroupsDone k files budget 1 groups before middle front done → HaveGoneOn k middle last → IsEnd k p last → HaveTheirRows (take front (history_of k p)) (flat_map done_lines done)
-  rowed shape new are gone end =
-      let kept = (all_kept shape new are gone end).1 in
-      λ i d within.
-      let line : Line = get_or (flat_map done_lines done) i d in
-      let seen : HasSeen k middle line = kept.own i d within in
-      let here : seen.by.log.seen ≡ front = front_seen k files budget groups 1 before middle front done are (place_of k line.caller) seen.by seen.there in
-      rows_cut k (history_of k p) front (front_within shape new are gone end) line.answer (subst (λ (n : ℕ). AreSeen n line) here seen.seen) (kept.rows i d within)
 
   pub ruled : IsShape k → AreNew k before → AreGroupsDone k files budget 1 groups before middle front done → HaveGoneOn k middle last → IsEnd k p last
       → (earlier later : List Line) (line : Line) → flat_map done_lines done ≡ earlier ++ line ∷ later → KeepsRule k (take front (history_of k p)) earlier line

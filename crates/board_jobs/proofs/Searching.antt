@@ -1,5 +1,5 @@
 -- What a search answers, and what it leaves of the account.
-use Rattle.std.proofs.Common.{◌≡◌, ⊎_elim, inl, inr, ℕ, ◌+◌, ◌≤◌, List, [], ◌∷◌, length, sym, ap, subst, ◌∙◌, refl, arith}
+use Rattle.std.proofs.Common.{◌≡◌, ⊎_elim, inl, inr, ℕ, ◌+◌, ◌<◌, ◌≤◌, List, [], ◌∷◌, length, sym, ap, subst, ◌∙◌, refl, arith}
 use Rattle.std.proofs.lemmas.List.{append-nil}
 use Rattle.std.specs.Prelude.{Ok, Err}
 use Rattle.htss_defs.specs.declared.shape.Shape.{Shape}
@@ -15,15 +15,20 @@ use Rattle.board_core.specs.declared.account.Account.{Account}
 use Rattle.board_core.specs.declared.entry.Entry.{Entry}
 use Rattle.board_core.specs.declared.entry.Entry.TheVariants.{Answered}
 use Rattle.board_core.specs.declared.entry.Reply.TheVariants as reply
-use Rattle.board_core.specs.After.{fronted}
+use Rattle.board_core.specs.After.{fronted, stamp_all}
 use Rattle.board_core.specs.Answers.{answers_in}
 use Rattle.board_core.proofs.Grown.{grows_same}
 use Rattle.board.specs.Seated.{Place, Seated, IsOf}
-use Rattle.searcher.specs.Searched.{SaysOfRows, IsSearched as Searched}
+use Rattle.searcher.specs.Searched.{IsSearched as Searched}
+use Rattle.searcher.specs.Finding.{LoadsPruned}
+use Rattle.board_jobs.specs.Jobs.{IsReady}
+use Rattle.board_core.specs.declared.pool.Own.{Own}
+use Rattle.board_core.specs.Sheets.{owns}
+use Rattle.board_core.specs.MarkRule.{IsAmong}
 use Rattle.searcher.specs.Walking.{Whatever}
 use Rattle.board_jobs.specs.Telling.{search_entries}
 use Rattle.board_jobs.specs.Calls.{Answers, GoesOn, IsAtWork, IsOfQuery, IsSearched, QueryBroke, SearchBroke, TellsReply}
-use Rattle.board_jobs.proofs.Chained.{all_one, all_none, IsFreed, ready_after, goes_on-one}
+use Rattle.board_jobs.proofs.Chained.{all_one, all_none, goes_on-one}
 
 seen_in : (a b : Account) (front : ℕ) (es : List Entry) → Searched a b front es → b.log.seen ≡ front
 seen_in a b front es s = ap (λ l. l.seen) s.log
@@ -33,7 +38,7 @@ used_in a b front es s = let same : length b.room.used ≡ length a.room.used = 
 
 hits-answers : (k : Shape) (a b : Account) (asked : QueryGraph) (budget front : ℕ) (hits : List Hit) (rows records : ℕ) → a.log.seen ≤ front
     → Searched a b front (Answered asked budget front (reply.Hits hits) ∷ []) → Whatever k b front (λ h. Counts asked h records)
-    → SaysOfRows k b front rows → Answers k a b (to_search (hits_at asked budget front hits rows records))
+    → LoadsPruned asked a b rows → Answers k a b (to_search (hits_at asked budget front hits rows records))
 hits-answers k a b asked budget front hits rows records later s counted rowed c who =
     let told : Entry = Answered asked budget front (reply.Hits hits) in
     let seen = seen_in a b front (told ∷ []) s in record {
@@ -44,13 +49,14 @@ hits-answers k a b asked budget front hits rows records later s counted rowed c 
       fresh = all_none _;
       fronts = all_one (λ mark. a.log.seen ≤ mark) front later;
       used = used_in a b front (told ∷ []) s;
-      says = (counted, rowed);
+      says = counted;
+      rows = rowed;
       grows = s.grown;
     }
 
 over-answers : (k : Shape) (a b : Account) (asked : QueryGraph) (budget front : ℕ) → a.log.seen ≤ front
-    → Searched a b front (Answered asked budget front reply.OverBudget ∷ []) → Answers k a b (to_search (over_at asked budget front))
-over-answers k a b asked budget front later s c who =
+    → Searched a b front (Answered asked budget front reply.OverBudget ∷ []) → (rows : ℕ) × LoadsPruned asked a b rows → Answers k a b (to_search (over_at asked budget front))
+over-answers k a b asked budget front later s rowed c who =
     let told : Entry = Answered asked budget front reply.OverBudget in
     let seen = seen_in a b front (told ∷ []) s in record {
       who = s.who;
@@ -61,6 +67,7 @@ over-answers k a b asked budget front later s c who =
       fronts = all_one (λ mark. a.log.seen ≤ mark) front later;
       used = used_in a b front (told ∷ []) s;
       says = tt;
+      rows = rowed;
       grows = s.grown;
     }
 
@@ -76,6 +83,7 @@ quiet-answers k a b line code front later s c who =
       fronts = all_none _;
       used = used_in a b front [] s;
       says = tt;
+      rows = tt;
       grows = s.grown;
     }
 
@@ -89,14 +97,27 @@ same-answers k a line code c who = record {
   fronts = all_none _;
   used = omega arith;
   says = tt;
+  rows = tt;
   grows = grows_same a;
+}
+
+-- a caller that was pinned and is no more is ready again
+ready_searched : (c d : Seated) (front : ℕ) (es : List Entry) → IsReady c → d.stock ≡ c.stock → Searched c.account d.account front es → IsReady d
+ready_searched c d front es ready stock s = record {
+  free = ap (λ l. l.holding) s.log ∙ ap fronted ready.free;
+  unpinned = s.unpinned;
+  stocked = record {
+    own = λ q own. subst (λ (l : List ℕ). IsAmong l q) (sym stock) (ready.stocked.own q (subst (λ (l : List Own). 0 < owns q l) s.own own));
+    size = subst (λ (l : List ℕ). length l ≤ 32) (sym stock) ready.stocked.size;
+    clean = s.parted.1 ∙ ap (stamp_all s.parted.0) ready.stocked.clean;
+  };
 }
 
 -- ---- the lines
 
 pub told-hits : (b : Place) (c d : Seated) (asked : QueryGraph) (budget front : ℕ) (found hits : List Hit) (rows records kept read : ℕ) → hits ≡ found → kept ≡ records → read ≡ rows → c.account.log.seen ≤ front
     → Searched c.account d.account front (Answered asked budget front (reply.Hits found) ∷ []) → Whatever b.shape d.account front (λ h. Counts asked h records)
-    → SaysOfRows b.shape d.account front rows → TellsReply b.shape c.account d.account asked budget (Hits front hits read kept)
+    → LoadsPruned asked c.account d.account rows → TellsReply b.shape c.account d.account asked budget (Hits front hits read kept)
 told-hits b c d asked budget front found hits rows records kept read same count all later s counted rowed =
     subst (λ (x : List Hit). Answers b.shape c.account d.account (to_search (hits_at asked budget front x read kept))) (sym same)
     (subst (λ (n : ℕ). Answers b.shape c.account d.account (to_search (hits_at asked budget front found read n))) (sym count)
@@ -104,30 +125,24 @@ told-hits b c d asked budget front found hits rows records kept read same count 
     (hits-answers b.shape c.account d.account asked budget front found rows records later s counted rowed)))
 
 pub told-over : (b : Place) (c d : Seated) (asked : QueryGraph) (budget front : ℕ) → c.account.log.seen ≤ front
-    → Searched c.account d.account front (Answered asked budget front reply.OverBudget ∷ []) → TellsReply b.shape c.account d.account asked budget (OverBudget front budget)
-told-over b c d asked budget front later s = (refl, over-answers b.shape c.account d.account asked budget front later s)
+    → Searched c.account d.account front (Answered asked budget front reply.OverBudget ∷ []) → (rows : ℕ) × LoadsPruned asked c.account d.account rows → TellsReply b.shape c.account d.account asked budget (OverBudget front budget)
+told-over b c d asked budget front later s rowed = (refl, over-answers b.shape c.account d.account asked budget front later s rowed)
 
 pub on-searched : (b : Place) (c d : Seated) (front : ℕ) (es : List Entry) (answer : Answer) → IsAtWork b c → IsOf b d → d.stock ≡ c.stock → Searched c.account d.account front es
     → Answers b.shape c.account d.account answer → GoesOn b c d
 on-searched b c d front es answer work of stock s answers =
-    let freed : IsFreed b c.account d.account = record {
-      holding = ap (λ l. l.holding) s.log ∙ ap fronted work.ready.free;
-      pool = s.pool;
-      who = s.who;
-      room = subst (λ r. length r.used ≤ b.shape.room) (sym s.room) work.room;
-    } in
-    goes_on-one b c d answer (record { of = of; ready = ready_after b c d work.ready stock freed; room = freed.room }) s.who answers
+    goes_on-one b c d answer (record { of = of; ready = ready_searched c d front es work.ready stock s; room = subst (λ r. length r.used ≤ b.shape.room) (sym s.room) work.room }) s.who answers
 
 pub on-hits : (b : Place) (c d : Seated) (asked : QueryGraph) (budget front : ℕ) (found : List Hit) (rows records : ℕ) → IsAtWork b c → IsOf b d → d.stock ≡ c.stock → c.account.log.seen ≤ front
-    → Searched c.account d.account front (Answered asked budget front (reply.Hits found) ∷ []) → Whatever b.shape d.account front (λ h. Counts asked h records) → SaysOfRows b.shape d.account front rows → GoesOn b c d
+    → Searched c.account d.account front (Answered asked budget front (reply.Hits found) ∷ []) → Whatever b.shape d.account front (λ h. Counts asked h records) → LoadsPruned asked c.account d.account rows → GoesOn b c d
 on-hits b c d asked budget front found rows records work of stock later s counted rowed =
     on-searched b c d front (Answered asked budget front (reply.Hits found) ∷ []) (to_search (hits_at asked budget front found rows records)) work of stock s
     (hits-answers b.shape c.account d.account asked budget front found rows records later s counted rowed)
 
 pub on-over : (b : Place) (c d : Seated) (asked : QueryGraph) (budget front : ℕ) → IsAtWork b c → IsOf b d → d.stock ≡ c.stock → c.account.log.seen ≤ front
-    → Searched c.account d.account front (Answered asked budget front reply.OverBudget ∷ []) → GoesOn b c d
-on-over b c d asked budget front work of stock later s =
-    on-searched b c d front (Answered asked budget front reply.OverBudget ∷ []) (to_search (over_at asked budget front)) work of stock s (over-answers b.shape c.account d.account asked budget front later s)
+    → Searched c.account d.account front (Answered asked budget front reply.OverBudget ∷ []) → (rows : ℕ) × LoadsPruned asked c.account d.account rows → GoesOn b c d
+on-over b c d asked budget front work of stock later s rowed =
+    on-searched b c d front (Answered asked budget front reply.OverBudget ∷ []) (to_search (over_at asked budget front)) work of stock s (over-answers b.shape c.account d.account asked budget front later s rowed)
 
 -- memory ran out
 pub on-none : (b : Place) (c d : Seated) (front : ℕ) → IsAtWork b c → IsOf b d → d.stock ≡ c.stock → Searched c.account d.account front [] → GoesOn b c d
@@ -157,7 +172,7 @@ searched-told k a b bytes asked budget (Refused at code) is told = absurd told
 -- the search was answered
 pub broke-hits : (b : Place) (c d : Seated) (asked : QueryGraph) (budget front : ℕ) (found : List Hit) (rows records : ℕ) → c.account.log.seen ≤ front
     → Searched c.account d.account front (Answered asked budget front (reply.Hits found) ∷ []) → Whatever b.shape d.account front (λ h. Counts asked h records)
-    → SaysOfRows b.shape d.account front rows → QueryBroke b.shape c.account d.account asked budget
+    → LoadsPruned asked c.account d.account rows → QueryBroke b.shape c.account d.account asked budget
 broke-hits b c d asked budget front found rows records later s counted rowed = record {
   answer = hits_at asked budget front found rows records;
   said = inr (refl, refl);

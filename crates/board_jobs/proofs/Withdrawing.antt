@@ -49,6 +49,7 @@ at-answers k a b number front event later next called c who =
       fronts = all_none _;
       used = used_called a b front event (told ∷ []) called;
       says = tt;
+      rows = tt;
       grows = grows_called a b front event (told ∷ []) later called;
     }
 
@@ -65,6 +66,7 @@ unknown-answers k a b number front at later same called c who =
       fronts = all_one (λ mark. a.log.seen ≤ mark) at (omega (arith, same, later));
       used = used_called a b front front (told ∷ []) called;
       says = tt;
+      rows = tt;
       grows = grows_called a b front front (told ∷ []) later called;
     }
 
@@ -81,6 +83,7 @@ gone-answers k a b number front at later within called c who =
       fronts = all_none _;
       used = used_called a b front front (told ∷ []) called;
       says = tt;
+      rows = tt;
       grows = grows_called a b front front (told ∷ []) later called;
     }
 
@@ -97,6 +100,7 @@ full-answers k a b number front at later (same, full, opened) called c who =
       fronts = all_one (λ mark. a.log.seen ≤ mark) at (omega (arith, same, later));
       used = used_called a b front front (told ∷ []) called;
       says = (same ∙ full, λ p may. subst (λ n. IsOpen (take n (history_of k p)) number) (sym same) (opened p may));
+      rows = tt;
       grows = grows_called a b front front (told ∷ []) later called;
     }
 

@@ -20,7 +20,7 @@ use Rattle.board_core.specs.Steps.{MayBe}
 use Rattle.board_core.specs.Loaded.{Grows}
 use Rattle.board_core.specs.After.{noted}
 use Rattle.board_core.specs.Answers.{answers_in}
-use Rattle.searcher.specs.Searched.{SaysOfRows}
+use Rattle.searcher.specs.Finding.{LoadsPruned}
 use Rattle.board_jobs.specs.Telling.{tells}
 
 abbrev pub who_of : Caller → Who
@@ -55,7 +55,7 @@ SaysOfWithdrawal k after number (LogFull front) = (front ≡ k.log) × WasOpen k
 
 abbrev pub SaysOfSearch : Shape → Account → SearchAnswer → Type 0
 SaysOfSearch k after (not_read line code) = Unit {0}
-SaysOfSearch k after (hits_at asked budget front hits rows records) = AreCounted k after asked front records × SaysOfRows k after front rows
+SaysOfSearch k after (hits_at asked budget front hits rows records) = AreCounted k after asked front records
 SaysOfSearch k after (over_at asked budget front) = Unit {0}
 
 abbrev pub Says : Shape → ℕ → Account → Answer → Type 0
@@ -63,6 +63,14 @@ Says k used after (to_record (not_accepted line code)) = Unit {0}
 Says k used after (to_record (taken one fate)) = SaysOfFate k used one fate
 Says k used after (to_withdrawal number answer) = SaysOfWithdrawal k after number answer
 Says k used after (to_search answer) = SaysOfSearch k after answer
+
+-- the code words that a search has loaded from a to b are pruned, and it tells of as many rows as it loaded
+abbrev pub LoadsRows : Account → Account → Answer → Type 0
+LoadsRows a b (to_record answer) = Unit {0}
+LoadsRows a b (to_withdrawal number answer) = Unit {0}
+LoadsRows a b (to_search (not_read line code)) = Unit {0}
+LoadsRows a b (to_search (hits_at asked budget front hits rows records)) = LoadsPruned asked a b rows
+LoadsRows a b (to_search (over_at asked budget front)) = (rows : ℕ) × LoadsPruned asked a b rows
 
 -- one answer: it adds the entries that it prints; its marks are seen afterwards; its own event comes after all that was seen before,
 -- and its front is no shorter. Each of its entries has the lengths that the lists of loads had at its end
@@ -75,6 +83,7 @@ pub record IsAnswered (k : Shape) (caller : Caller) (a b : Account) (answer : An
   pub fronts : All (λ front. a.log.seen ≤ front) (fronts_of answer)
   pub used : length b.room.used ≡ length a.room.used + words_used answer
   pub says : Says k (length a.room.used) b answer
+  pub rows : LoadsRows a b answer
   pub grows : Grows a b
 
 -- answers of one caller, one after the other

@@ -5,5 +5,4 @@ pub mod Ends
 pub mod Jobs
 pub mod Printed
 pub mod Rooms
-pub mod Rows
 pub mod Calls

@@ -39,14 +39,13 @@ use Rattle.board.specs.Seated as seated
 use Rattle.board_jobs.specs.Groups.{AreNew}
 use Rattle.board_jobs.specs.Ends.{IsEnd}
 use Rattle.board_jobs.specs.Jobs.{IsThere}
-use Rattle.board_jobs.specs.Rows.{HaveTheirRows}
 use Rattle.board_jobs.proofs.Chained.{new_ready}
 use Rattle.board_jobs.proofs.Named.{named, whole}
 use Rattle.board_jobs.proofs.Places.{map_back}
 use Rattle.board_jobs.proofs.Printing.{entries_printed}
 use Rattle.board_jobs.proofs.LogLines.{log_lines}
 use Rattle.board_jobs.proofs.Reported.{known_end, reported}
-use Rattle.board_jobs.proofs.Ruled.{roomed, rowed, ruled}
+use Rattle.board_jobs.proofs.Ruled.{roomed, ruled}
 use Rattle.board_jobs.proofs.Told.{all_dealt}
 use Rattle.script_run.specs.declared.gate.Worker.{Worker}
 use Rattle.script_run.specs.Working.{AreCallers}
@@ -311,8 +310,6 @@ run_is told script groups shape budget accounts text text_now last limits closed
             ∙ sym (report_is shape budget (map done_block done.done) last.history);
       };
       rooms = roomed shape done.files budget groups done.new accounts accounts done.front done.done words limits done.are_new done.are_done (gone_here shape accounts) end;
-      rows = subst (λ (h : List Event). HaveTheirRows h (flat_map done_lines done.done)) whole_is
-          (rowed shape done.files budget groups done.new accounts accounts done.front done.done words limits done.are_new done.are_done (gone_here shape accounts) end);
       same = refl;
       events = refl;
       shape_is = closed.shape_is;

@@ -11,7 +11,6 @@ use Rattle.board_core.specs.Accounts.{caller_after}
 use Rattle.board.specs.Closed.{Closing, IsSettled}
 use Rattle.board_jobs.specs.Ends.{caller_at}
 use Rattle.board_jobs.specs.Rooms.{HaveHadRoom}
-use Rattle.board_jobs.specs.Rows.{HaveTheirRows}
 use Rattle.board_jobs.specs.Printed.{lines_by, printed}
 use Rattle.board_jobs.specs.Telling.{entries_in}
 use Rattle.outside.specs.Files.{File}
@@ -24,14 +23,13 @@ pub record HasPrinted (shape : Shape) (done : List Done) (i : ℕ) (a : Account)
   pub who : a.who ≡ caller_after shape i
   pub entries : entries_in a ≡ printed (lines_by (caller_at shape i) (flat_map done_lines done))
 
--- the text is a run's; each record that took words of its loader's region had room there; the rows of each search are the atoms of the
--- records that were live at its front; the history of the report's rules is that of the board that was closed, and the text prints its
--- log; and each caller's account, which is true of that history, of the room that it has left and of the pages, has what the caller's
--- lines print, and nothing else
+-- the text is a run's; each record that took words of its loader's region had room there; the history of the report's rules is that of
+-- the board that was closed, and the text prints its log; and each caller's account, which is true of that history, of the room that it
+-- has left and of the pages, has what the caller's lines print, and nothing else. How many rows a search loaded is said of each answer
+-- of a group, and not yet of the whole run
 pub record IsRunOf (told : Option (List File)) (script : List ℕ) (shape : Shape) (budget : ℕ) (text : List ℕ) (last : Closing) : Type 0 where
   pub run : IsRunText told script shape budget text
   pub rooms : HaveHadRoom shape (flat_map done_lines run.is_report.told.done)
-  pub rows : HaveTheirRows last.history (flat_map done_lines run.is_report.told.done)
   pub same : run.is_report.history ≡ last.history
   pub events : run.report.events ≡ map log_line last.history
   pub shape_is : last.shape ≡ shape

@@ -1,5 +1,5 @@
 -- What the account is after a search, and that its entry is true.
-use Rattle.std.proofs.Common.{◌≡◌, ℕ, ◌-◌, ◌≤◌, List, [], ◌∷◌, ◌++◌, length, refl, sym, ap, ◌∙◌, subst, arith, append-nil}
+use Rattle.std.proofs.Common.{◌≡◌, ℕ, ◌-◌, ◌≤◌, List, [], ◌∷◌, ◌++◌, length, map, refl, sym, ap, ◌∙◌, subst, arith, append-nil}
 use Rattle.htss_defs.specs.declared.shape.Shape.{Shape}
 use Rattle.htss_defs.specs.declared.history.Event.{Event}
 use Rattle.std.specs.Prelude.{Result, Err}
@@ -21,7 +21,9 @@ use Rattle.board.specs.Seated.{Seated, with_account}
 use Rattle.board_core.proofs.Lists.{each_none, each_cons}
 use Rattle.board_core.proofs.Grown.{entries_added, grows_trans, grows_front, grows_quiet}
 use Rattle.board_core.proofs.BlockCauses.{seen_within}
-use Rattle.searcher.specs.Searched.{IsSearched, LoadsOnce}
+use Rattle.descent.specs.Seats.{load_of}
+use Rattle.searcher.specs.Finding.{Visits, HasRead, LoadsPruned}
+use Rattle.searcher.specs.Searched.{IsSearched}
 use Rattle.searcher.specs.Walking.{Reads, Replies, Whatever}
 use Rattle.searcher.proofs.Walks.{whatever_later}
 use Rattle.board_core.specs.ChainRule.{IsToldChain}
@@ -36,74 +38,75 @@ answered_true k a query budget front reply r = let e : Entry = Answered query bu
   chains = each_cons (IsToldChain k a) e [] tt (each_none (IsToldChain k a));
 }
 
--- the front is none of the words that are counted
-of_front : (a b : Account) (front numbers : ℕ) → LoadsOnce (after_front a front) b numbers → LoadsOnce a b numbers
-of_front a b front numbers o = record {
-  shown = o.shown;
-  marks = o.marks;
-  words = o.words;
-  heads = o.heads;
-  loads = record { shown_are = o.loads.shown_are; marks_are = o.loads.marks_are; words_are = o.loads.words_are; heads_are = o.loads.heads_are };
-  few_shown = o.few_shown;
-  few_marks = o.few_marks;
-  few_heads = o.few_heads;
-  few_words = o.few_words;
-}
-
--- entries load nothing
-once_noted : (a b : Account) (numbers : ℕ) (es : List Entry) → LoadsOnce a b numbers → LoadsOnce a (after_answer b es) numbers
-once_noted a b numbers es o = record {
-  shown = o.shown;
-  marks = o.marks;
-  words = o.words;
-  heads = o.heads;
-  loads = record { shown_are = o.loads.shown_are; marks_are = o.loads.marks_are; words_are = o.loads.words_are; heads_are = o.loads.heads_are };
-  few_shown = o.few_shown;
-  few_marks = o.few_marks;
-  few_heads = o.few_heads;
-  few_words = o.few_words;
-}
-
--- the front was loaded, then words, and then the entries were added
-searched : (a b : Account) (front : ℕ) (es : List Entry) → answers_in (noted b.loads es) ≡ noted b.loads es → a.log.seen ≤ front → Reads (after_front a front) b → LoadsOnce (after_front a front) b front → IsSearched a (after_answer b es) front es
-searched a b front es answers later r once = record {
+-- the front was loaded, then a descent and words, and then the entries were added
+searched : (a b : Account) (front : ℕ) (es : List Entry) → answers_in (noted b.loads es) ≡ noted b.loads es → a.log.seen ≤ front → HasRead (after_front a front) b → IsSearched a (after_answer b es) front es
+searched a b front es answers later r = record {
   grown = grows_trans a (after_front a front) (after_answer b es) (grows_front a front later) (grows_trans (after_front a front) b (after_answer b es) r.grown (grows_quiet b (after_answer b es) (omega arith) refl (entries_added b (after_answer b es) (noted b.loads es) refl)));
   who = r.who;
   log = r.log;
   room = r.room;
-  pool = r.pool;
+  unpinned = r.unpinned;
+  own = r.own;
+  parted = r.parted;
   tree = r.tree;
   counts = r.counts;
   fronts = r.fronts;
-  once = once_noted a b front es (of_front a b front front once);
   entries =
-      ap (λ (l : List Noted). answers_in (l ++ noted b.loads es)) r.entries
-      ∙ (filter-append (λ (n : Noted). is_answer n.entry) a.entries (noted b.loads es) ∙ ap (λ (l : List Noted). answers_in a.entries ++ l) answers);
+      filter-append (λ (n : Noted). is_answer n.entry) b.entries (noted b.loads es)
+      ∙ (ap (λ (l : List Noted). l ++ answers_in (noted b.loads es)) r.answers ∙ ap (λ (l : List Noted). answers_in a.entries ++ l) answers);
 }
 
 module _ (c f : Seated) (front : ℕ) (loaded : f ≡ with_account c (after_front c.account front)) (later : c.account.log.seen ≤ front) where
-  reads_front : (b : Account) → Reads f.account b → Reads (after_front c.account front) b
-  reads_front b r = subst (λ (x : Seated). Reads x.account b) loaded r
+  read_front : (b : Account) → HasRead f.account b → HasRead (after_front c.account front) b
+  read_front b r = subst (λ (x : Seated). HasRead x.account b) loaded r
 
-  once_front : (b : Account) → LoadsOnce f.account b front → LoadsOnce (after_front c.account front) b front
-  once_front b once = subst (λ (x : Seated). LoadsOnce x.account b front) loaded once
+  pub search_answered : (b n : Seated) (es : List Entry) → answers_in (noted b.account.loads es) ≡ noted b.account.loads es → HasRead f.account b.account → n ≡ with_account b (after_answer b.account es) → IsSearched c.account n.account front es
+  search_answered b n es answers r is = subst (λ (x : Seated). IsSearched c.account x.account front es) (sym is) (searched c.account b.account front es answers later (read_front b.account r))
 
-  pub search_answered : (b n : Seated) (es : List Entry) → answers_in (noted b.account.loads es) ≡ noted b.account.loads es → Reads f.account b.account → LoadsOnce f.account b.account front → n ≡ with_account b (after_answer b.account es) → IsSearched c.account n.account front es
-  search_answered b n es answers r once is = subst (λ (x : Seated). IsSearched c.account x.account front es) (sym is) (searched c.account b.account front es answers later (reads_front b.account r) (once_front b.account once))
-
-  pub search_quiet : (b : Seated) → Reads f.account b.account → LoadsOnce f.account b.account front → IsSearched c.account b.account front []
-  search_quiet b r once = let s = searched c.account b.account front [] refl later (reads_front b.account r) (once_front b.account once) in record {
-    grown = grows_trans c.account (after_front c.account front) b.account (grows_front c.account front later) (reads_front b.account r).grown;
-    who = s.who;
-    log = s.log;
-    room = s.room;
-    pool = s.pool;
-    tree = s.tree;
-    counts = s.counts;
-    fronts = s.fronts;
-    once = of_front c.account b.account front front (once_front b.account once);
-    entries = ap answers_in (reads_front b.account r).entries ∙ sym (append-nil (answers_in c.account.entries));
+  pub search_quiet : (b : Seated) → HasRead f.account b.account → IsSearched c.account b.account front []
+  search_quiet b r = let h = read_front b.account r in record {
+    grown = grows_trans c.account (after_front c.account front) b.account (grows_front c.account front later) h.grown;
+    who = h.who;
+    log = h.log;
+    room = h.room;
+    unpinned = h.unpinned;
+    own = h.own;
+    parted = h.parted;
+    tree = h.tree;
+    counts = h.counts;
+    fronts = h.fronts;
+    entries = h.answers ∙ sym (append-nil (answers_in c.account.entries));
   }
+
+  -- the codes that were loaded are those that the descent has loaded
+  pub search_pruned : (b : Account) (query : QueryGraph) (rows : ℕ) → LoadsPruned query f.account b rows → LoadsPruned query c.account b rows
+  search_pruned b query rows l = pruned_from (subst (λ (x : Seated). LoadsPruned query x.account b rows) loaded l)
+    where
+      pruned_from : LoadsPruned query (after_front c.account front) b rows → LoadsPruned query c.account b rows
+      pruned_from q = record { need = q.need; need_is = q.need_is; loads = q.loads; loads_are = q.loads_are; pruned = q.pruned; counts = q.counts }
+
+-- entries load nothing
+pub pruned_noted : (a : Account) (b n : Seated) (es : List Entry) (query : QueryGraph) (rows : ℕ) → n ≡ with_account b (after_answer b.account es) → LoadsPruned query a b.account rows → LoadsPruned query a n.account rows
+pruned_noted a b n es query rows is q = subst (λ (x : Seated). LoadsPruned query a x.account rows) (sym is) record { need = q.need; need_is = q.need_is; loads = q.loads; loads_are = q.loads_are; pruned = q.pruned; counts = q.counts }
+
+-- a descent, and then loads that are of no codes
+pub has_read : (a b c : Account) → Visits a b → Reads b c → HasRead a c
+has_read a b c v r = record {
+  grown = grows_trans a b c v.grown r.grown;
+  who = r.who ∙ v.who;
+  log = r.log ∙ v.log;
+  room = r.room ∙ v.room;
+  unpinned = ap (λ p. p.announced) r.pool ∙ v.unpinned;
+  own = ap (λ p. p.own) r.pool ∙ v.own;
+  parted = (v.parted.0, ap (λ p. p.parted) r.pool ∙ v.parted.1);
+  tree = r.tree ∙ v.tree;
+  counts = r.counts ∙ v.counts;
+  fronts = r.fronts ∙ v.fronts;
+  answers = ap answers_in r.entries ∙ v.answers;
+}
+
+pub pruned_later : (a b c : Account) (query : QueryGraph) (rows : ℕ) → LoadsPruned query a b rows → Reads b c → LoadsPruned query a c rows
+pruned_later a b c query rows q r = record { need = q.need; need_is = q.need_is; loads = q.loads; loads_are = ap (map load_of) r.codes ∙ q.loads_are; pruned = q.pruned; counts = q.counts }
 
 -- what holds whatever the board is holds as well when entries were added
 pub whatever_noted : (k : Shape) (b n : Seated) (es : List Entry) (front : ℕ) (F : List Event → Type 0) → n ≡ with_account b (after_answer b.account es) → Whatever k b.account front F → Whatever k n.account front F

@@ -2,6 +2,10 @@ pub mod Read
 pub mod Once
 pub mod Block
 pub mod Living
-pub mod Rows
+pub mod Recorded
+pub mod Skips
+pub mod Numbered
+pub mod Found
+pub mod Complete
 pub mod Walks
 pub mod Answered

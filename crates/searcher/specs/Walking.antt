@@ -1,6 +1,5 @@
--- What a walk over the log words of a history keeps.
-use Rattle.std.specs.Prelude.{◌≡◌, ℕ, ◌<◌, ◌≤◌, List, length, map, take, slice_index, All, Contains}
-use Rattle.std.specs.List.Sorted.{IsStrictlyIncreasing}
+-- What a search of the records that a descent has found keeps.
+use Rattle.std.specs.Prelude.{◌≡◌, ℕ, ◌+◌, ◌<◌, ◌≤◌, List, length, take, slice_index, Contains}
 use Rattle.htss_defs.specs.declared.shape.Shape.{Shape}
 use Rattle.htss_defs.specs.declared.history.Event.{Event}
 use Rattle.htss_defs.specs.Molecule.{Molecule}
@@ -8,14 +7,16 @@ use Rattle.htss_defs.specs.Marked.{IsMarked}
 use Rattle.htss_defs.specs.QueryGraph.{QueryGraph}
 use Rattle.htss_defs.specs.HitLists.{HitsKept}
 use Rattle.htss_defs.specs.History.{IsLive}
-use Rattle.htss_defs.specs.Reply.{Numbered, Reply, IsReply, atoms_of, found}
-use Rattle.reg_model.specs.Searches.{Counts}
+use Rattle.htss_defs.specs.Reply.{Reply, IsReply, found}
+use Rattle.htss_defs.specs.declared.history.Hit.{Hit}
+use Rattle.htss_defs.specs.Screened.{IsScreened}
+use Rattle.reg_model.specs.Searches.{Counts, HasSearched, IsOverTo}
 use Rattle.board_core.specs.declared.account.Account.{Account}
 use Rattle.board_core.specs.Words.{Parts}
 use Rattle.board_core.specs.Histories.{history_of}
+use Rattle.board_core.specs.MarkRule.{ShowsAt}
 use Rattle.board_core.specs.Loaded.{Grows, HasFact, HasLoaded, SawMark, IsOpenMark, IsInTable}
 use Rattle.board_core.specs.Steps.{MayBe}
-use Rattle.searcher.specs.Searched.{IsLiveRecord, CountsRows}
 
 -- the second account has loaded more log words, marks and words of blocks than the first, but no codes, and differs in nothing else
 pub record Reads (a b : Account) : Type 0 where
@@ -56,21 +57,33 @@ pub record IsReadLive (k : Shape) (a : Account) (front number : ℕ) (name : Lis
   pub atoms : length mol.atoms ≤ 999
   pub live : Whatever k a front (λ h. IsLive h number name mol)
 
-abbrev pub numbers_of : List Numbered → List ℕ
-numbers_of records = map (λ one. one.number) records
+-- numbers of the first events
+abbrev pub AreEarly : ℕ → List ℕ → Type 0
+AreEarly front numbers = (i : ℕ) → i < length numbers → (0 < slice_index numbers i) × (slice_index numbers i ≤ front)
 
--- exactly the live records that are numbered up to n
-pub record AreLiveTo (history : List Event) (n : ℕ) (records : List Numbered) : Type 0 where
-  pub rising : IsStrictlyIncreasing (numbers_of records)
-  pub within : All (λ x. x ≤ n) (numbers_of records)
-  pub each : All (IsLiveRecord history) records
-  pub all : (number : ℕ) (name : List ℕ) (mol : Molecule) → number ≤ n → IsLive history number name mol → Contains (numbers_of records) number
+-- the number of the event up to the front that publishes the block, or 0, whatever the board is
+pub record IsNumberOf (k : Shape) (a : Account) (front block number : ℕ) : Type 0 where
+  pub early : number ≤ front
+  pub only : (p : Parts) → MayBe k p a → (n : ℕ) → n ≤ front → ShowsAt p.log.front p.log.slots block n → number ≡ n
+  pub shows : (p : Parts) → MayBe k p a → 0 < number → ShowsAt p.log.front p.log.slots block number
 
--- so many are the atoms of the live records that are numbered up to n
-pub record HasRows (history : List Event) (n rows : ℕ) : Type 0 where
-  pub records : List Numbered
-  pub are : AreLiveTo history n records
-  pub rows_are : rows ≡ atoms_of records
+-- that number is among these
+abbrev pub AreNumbered : Shape → Account → ℕ → ℕ → List ℕ → Type 0
+AreNumbered k a front block numbers = (p : Parts) → MayBe k p a → (n : ℕ) → n ≤ front → ShowsAt p.log.front p.log.slots block n → Contains numbers n
+
+-- each screened record has one of these numbers
+abbrev pub AllScreened : QueryGraph → List ℕ → List Event → Type 0
+AllScreened query numbers history = (number : ℕ) (name : List ℕ) (mol : Molecule) → IsLive history number name mol → IsScreened query mol → Contains numbers number
+
+-- the record of this number was taken, if there is one: what was searched before it then goes up to it
+abbrev pub Takes : ℕ → QueryGraph → (left count : ℕ) → List Hit → (left' count' : ℕ) → List Hit → List Event → Type 0
+Takes number asked left count hits left' count' hits' history =
+    (budget before : ℕ) → number ≡ before + 1 → HasSearched asked history budget left before count hits → HasSearched asked history budget left' number count' hits'
+
+-- or it costs more than is left
+abbrev pub Spends : ℕ → QueryGraph → (left count : ℕ) → List Hit → List Event → Type 0
+Spends number asked left count hits history =
+    (budget before : ℕ) → number ≡ before + 1 → HasSearched asked history budget left before count hits → IsOverTo asked history budget number
 
 -- the first events as they may be: they are all seen, and the reply is theirs
 pub record Replies (k : Shape) (a : Account) (query : QueryGraph) (budget front : ℕ) (reply : Reply) : Type 0 where
@@ -81,4 +94,3 @@ pub record Replies (k : Shape) (a : Account) (query : QueryGraph) (budget front 
 pub record AreFound (k : Shape) (a : Account) (query : QueryGraph) (budget front : ℕ) (hits : HitsKept) : Type 0 where
   pub replies : Replies k a query budget front (found hits.hits)
   pub screened : Whatever k a front (λ h. Counts query h hits.records)
-  pub rows : Whatever k a front (λ h. CountsRows h hits.rows)

@@ -1,5 +1,6 @@
-// A search at the front: the plain registry's walk over the records that are live.
-ghost use Rattle.std.specs.Prelude.{◌≡◌, ℕ, ◌≤◌, [], ◌∷◌, Err, IfOk, IfErr, OnOk};
+// A search at the front: the records that a descent has found are searched by rising number.
+ghost use Rattle.std.specs.Prelude.{◌≡◌, ℕ, ◌<◌, ◌≤◌, [], ◌∷◌, length, slice_index, Err, IfOk, IfErr, OnOk};
+ghost use Rattle.std.specs.List.Sorted.{IsNonDecreasing};
 ghost use Rattle.htss_defs.specs.declared.history.SearchError.{SearchError};
 ghost use Rattle.htss_defs.specs.HitLists.{no_hits};
 ghost use Rattle.htss_defs.specs.Reply.{IsReply, found, over_budget};
@@ -9,9 +10,12 @@ ghost use Rattle.board_core.specs.declared.entry.Reply.TheVariants.{Hits, OverBu
 ghost use Rattle.board_core.specs.After.{after_answer};
 ghost use Rattle.board_core.specs.Steps.{AreTrue};
 ghost use Rattle.board.specs.Seated.{IsOf, with_account};
-ghost use Rattle.searcher.specs.Searched.{IsSearched, LoadsOnce, SaysOfRows};
-ghost use Rattle.searcher.specs.Walking.{Reads, Replies, AreFound, Whatever};
+ghost use Rattle.searcher.specs.Searched.{IsSearched, LoadsOnce};
+ghost use Rattle.searcher.specs.Finding.{HasRead, LoadsPruned};
+ghost use Rattle.searcher.specs.Walking.{Reads, Replies, AreFound, AllScreened, Takes, Spends, Whatever};
 
+use crate::finding::find_rows;
+use crate::given::{Rows, numbers_in_order};
 use crate::live::load_live;
 use board::{Answers, Board, Caller, load_front, note_answers};
 use htss_defs::{HitList, Query, SearchError};
@@ -67,8 +71,98 @@ fn note_over(
     note_with::<Brand>(board, caller, query, budget, front, hits);
 }
 
-// Fills an empty list. What it has after an error is open.
+// Takes the record of a number, if one is live at the front.
+fn take_one(
+    alloc: Global,
+    board: &Board,
+    caller: &mut Caller,
+    front: u32,
+    number: u32,
+    search: &mut Search,
+    words: &mut [u64],
+    hits: &mut HitList,
+) -> Result<(), SearchError>
+    requires fits { IsOf board.now caller.old }
+    requires seen { caller.old.account.log.seen ≡ front }
+    requires front { front ≤ board.now.shape.log }
+    requires number { (0 < number) × (number ≤ front) }
+    requires room { search.old.records < number }
+    requires size { length words.old ≡ 7200 }
+    ensures of { IsOf board.now caller.new }
+    ensures stock { caller.new.stock ≡ caller.old.stock }
+    ensures reads { Reads caller.old.account caller.new.account }
+    ensures once { LoadsOnce caller.old.account caller.new.account 1 }
+    ensures size { length words.new ≡ 7200 }
+    ensures asked { search.new.matcher ≡ search.old.matcher }
+    ensures front { search.new.front ≡ search.old.front }
+    ensures room { search.new.records ≤ number }
+    ensures takes { OnOk result (Whatever board.now.shape caller.new.account front
+        (Takes number search.old.matcher search.old.left search.old.records hits.old.hits search.new.left search.new.records hits.new.hits)) }
+    ensures over { (at : ℕ) → result ≡ Err (SearchError.OverBudget at) → (at ≡ search.old.front)
+        × Whatever board.now.shape caller.new.account front (Spends number search.old.matcher search.old.left search.old.records hits.old.hits) }
+{
+    let Ok(read) = load_live(alloc, board, caller, front, number, words) else {
+        return Err(SearchError::OutOfMemory);
+    };
+    if let Some(live) = read {
+        search.take(number, &live.name, &live.mol, hits)?;
+    }
+    Ok(())
+}
+
+// Fills an empty list with the hits among the records of these numbers, which are in order. What it has after an error is open.
 fn fill(
+    alloc: Global,
+    board: &Board,
+    caller: &mut Caller,
+    front: u32,
+    query: &Query,
+    budget: u64,
+    numbers: &[u32],
+    rows: u64,
+    hits: &mut HitList,
+) -> Result<(), SearchError>
+    requires fits { IsOf board.now caller.old }
+    requires seen { caller.old.account.log.seen ≡ front }
+    requires front { front ≤ board.now.shape.log }
+    requires numbers { (i : ℕ) → i < length numbers.now → (0 < slice_index numbers.now i) × (slice_index numbers.now i ≤ front) }
+    requires rising { IsNonDecreasing numbers.now }
+    requires all { Whatever board.now.shape caller.old.account front (AllScreened query.now numbers.now) }
+    requires empty { hits.old ≡ no_hits }
+    ensures of { IsOf board.now caller.new }
+    ensures stock { caller.new.stock ≡ caller.old.stock }
+    ensures reads { Reads caller.old.account caller.new.account }
+    ensures once { LoadsOnce caller.old.account caller.new.account (length numbers.now) }
+    ensures found { OnOk result (AreFound board.now.shape caller.new.account query.now budget front hits.new) }
+    ensures rows { OnOk result (hits.new.rows ≡ rows) }
+    ensures over { (at : ℕ) → result ≡ Err (SearchError.OverBudget at) → (at ≡ front) × Replies board.now.shape caller.new.account query.now budget front over_budget }
+{
+    let mut search = Search::new(front, query, budget);
+    let mut words = [0; 7200];
+    let mut last = 0;
+    for index in 0..numbers.len() {
+        let number = numbers[index];
+        if number > last {
+            take_one(
+                alloc,
+                board,
+                caller,
+                front,
+                number,
+                &mut search,
+                &mut words,
+                hits,
+            )?;
+            last = number;
+        }
+    }
+    hits.set_counts(rows, search.records());
+    Ok(())
+}
+
+// Answers at the front that was just loaded: descends, and searches the records that it has found. What the list has after an error is
+// open.
+fn answer(
     alloc: Global,
     board: &Board,
     caller: &mut Caller,
@@ -79,37 +173,37 @@ fn fill(
 ) -> Result<(), SearchError>
     requires fits { IsOf board.now caller.old }
     requires seen { caller.old.account.log.seen ≡ front }
+    requires unpinned { caller.old.account.pool.announced ≡ 0 }
     requires front { front ≤ board.now.shape.log }
     requires empty { hits.old ≡ no_hits }
     ensures of { IsOf board.now caller.new }
     ensures stock { caller.new.stock ≡ caller.old.stock }
-    ensures reads { Reads caller.old.account caller.new.account }
-    ensures once { LoadsOnce caller.old.account caller.new.account front }
+    ensures reads { HasRead caller.old.account caller.new.account }
     ensures found { OnOk result (AreFound board.now.shape caller.new.account query.now budget front hits.new) }
-    ensures over { (at : ℕ) → result ≡ Err (SearchError.OverBudget at) → (at ≡ front) × Replies board.now.shape caller.new.account query.now budget front over_budget }
+    ensures rows { OnOk result (LoadsPruned query.now caller.old.account caller.new.account hits.new.rows) }
+    ensures over { (at : ℕ) → result ≡ Err (SearchError.OverBudget at) → (at ≡ front) × Replies board.now.shape caller.new.account query.now budget front over_budget
+        × ((rows : ℕ) × LoadsPruned query.now caller.old.account caller.new.account rows) }
 {
-    let mut search = Search::new(front, query, budget);
-    let mut words = [0; 7200];
-    let mut rows = 0;
-    for index in 0..front {
-        let number = index + 1;
-        let Ok(read) = load_live(alloc, board, caller, front, number, &mut words) else {
-            return Err(SearchError::OutOfMemory);
-        };
-        if let Some(live) = read {
-            search.take(number, &live.name, &live.mol, hits)?;
-            rows += live.mol.atoms().len() as u64;
-        }
-    }
-    hits.set_counts(rows, search.records());
-    Ok(())
+    let mut found = Rows {
+        rows: Vec::new(alloc),
+    };
+    let Ok(rows) = find_rows(board, caller, query, &mut found) else {
+        return Err(SearchError::OutOfMemory);
+    };
+    let Ok(numbers) = numbers_in_order(alloc, board, caller, front, &found.rows) else {
+        return Err(SearchError::OutOfMemory);
+    };
+    fill(
+        alloc, board, caller, front, query, budget, &numbers, rows, hits,
+    )
 }
 
 /// Gives the hits of the query among the records that are live at the front, which it loads, by rising number, each with the least
-/// embedding, how many records were screened, and how many atoms all live records have. It answers the front. It is over budget only
-/// where the work of this search exceeds the budget, and always where the screened records have more atoms than that. After an error
-/// the list is empty. It loads each log word at most once, and the words of each live record once (`once` of `IsSearched`); beside that
-/// it costs the search of the screened records. The answer is true of every board that has what the caller has loaded by then.
+/// embedding, how many records were screened, and how many rows were loaded. It answers the front. It is over budget only where the work
+/// of this search exceeds the budget, and always where the screened records have more atoms than that. After an error the list is empty.
+/// It descends in the class tree with the need of the query's pivot: the code words that it loads are pruned (`LoadsPruned`), none is
+/// loaded twice, and it reads the records of the rows that cover, without their codes. It doesn't wait. The answer is true of every
+/// board that has what the caller has loaded by then.
 pub fn search(
     alloc: Global,
     board: &Board,
@@ -125,17 +219,18 @@ pub fn search(
     ensures found { IfOk result (λ f. (caller.old.account.log.seen ≤ f)
         × IsSearched caller.old.account caller.new.account f (Answered query.now budget f (Hits hits.new.hits) ∷ [])) }
     ensures records { IfOk result (λ f. Whatever board.now.shape caller.new.account f (λ h. Counts query.now h hits.new.records)) }
-    ensures rows { IfOk result (λ f. SaysOfRows board.now.shape caller.new.account f hits.new.rows) }
+    ensures rows { IfOk result (λ f. LoadsPruned query.now caller.old.account caller.new.account hits.new.rows) }
     ensures reply { IfOk result (λ f. Whatever board.now.shape caller.new.account f (λ h. IsReply query.now budget h (found hits.new.hits))) }
     ensures over { (at : ℕ) → result ≡ Err (SearchError.OverBudget at) → (caller.old.account.log.seen ≤ at)
         × IsSearched caller.old.account caller.new.account at (Answered query.now budget at OverBudget ∷ [])
-        × Whatever board.now.shape caller.new.account at (λ h. IsReply query.now budget h over_budget) }
+        × Whatever board.now.shape caller.new.account at (λ h. IsReply query.now budget h over_budget)
+        × ((rows : ℕ) × LoadsPruned query.now caller.old.account caller.new.account rows) }
     ensures memory { result ≡ Err SearchError.OutOfMemory → (f : ℕ) × IsSearched caller.old.account caller.new.account f [] }
     ensures empty { IfErr result (λ e. hits.new ≡ no_hits) }
 {
     hits.clear();
     let front = load_front(board, caller);
-    match fill(alloc, board, caller, front, query, budget, hits) {
+    match answer(alloc, board, caller, front, query, budget, hits) {
         Ok(()) => {
             note_hits(board, caller, query, budget, front, hits);
             Ok(front)

@@ -1,8 +1,10 @@
-//! A search of a board: all records that are live at its front, read from their blocks.
+//! A search of a board: a descent finds rows that cover, and the records of these are read and searched.
 #![tactic(auto)]
 
 mod at_front;
 mod blocks;
+mod finding;
+mod given;
 mod live;
 mod sizes;
 

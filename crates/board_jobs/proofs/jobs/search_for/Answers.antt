@@ -17,13 +17,13 @@ pub returns-in-Err-OverBudget-clause-told : goal.returns-in-Err-OverBudget-claus
 returns-in-Err-OverBudget-clause-told c =
     let arm = c.in-Err-OverBudget in
     let told = c.search.ensures.over arm.front (arm.is ∙ ap (λ e. Err e) arm.field-0-is) in
-    rw arm.front-is (told-over c.args.board.now c.args.caller.now c.search.new.caller c.args.query.now c.args.budget arm.front told.0 told.1)
+    rw arm.front-is (told-over c.args.board.now c.args.caller.now c.search.new.caller c.args.query.now c.args.budget arm.front told.0 told.1 told.3)
 
 pub returns-in-Err-OverBudget-clause-goes_on : goal.returns-in-Err-OverBudget-clause-goes_on
 returns-in-Err-OverBudget-clause-goes_on c =
     let arm = c.in-Err-OverBudget in
     let told = c.search.ensures.over arm.front (arm.is ∙ ap (λ e. Err e) arm.field-0-is) in
-    on-over c.args.board.now c.args.caller.now c.search.new.caller c.args.query.now c.args.budget arm.front c.requires.work c.search.ensures.of c.search.ensures.stock told.0 told.1
+    on-over c.args.board.now c.args.caller.now c.search.new.caller c.args.query.now c.args.budget arm.front c.requires.work c.search.ensures.of c.search.ensures.stock told.0 told.1 told.3
 
 pub returns-in-Err-OutOfMemory-clause-goes_on : goal.returns-in-Err-OutOfMemory-clause-goes_on
 returns-in-Err-OutOfMemory-clause-goes_on c =

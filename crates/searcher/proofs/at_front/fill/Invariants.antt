@@ -1,4 +1,4 @@
-use Rattle.std.proofs.Common.{◌≡◌, length}
+use Rattle.std.proofs.Common.{◌≡◌, ℕ, ◌<◌, ◌≤◌, length, slice_index}
 use Rattle.board.specs.Seated.{IsOf}
 use Rattle.searcher.specs.Searched.{LoadsOnce}
 use Rattle.searcher.specs.Walking.{Reads}
@@ -12,5 +12,7 @@ invariant-loop-index l = record {
   reads : Reads l.fn.caller.account l.caller.account;
   once : LoadsOnce l.fn.caller.account l.caller.account l.index;
   size : length l.words ≡ 7200;
-  walked : Walked l.board.shape l.caller.account l.query l.front l.budget l.index l.search.matcher l.search.front l.search.left l.search.records l.rows l.hits;
+  early : l.last ≤ l.front;
+  passed : (i : ℕ) → i < l.index → slice_index l.numbers i ≤ l.last;
+  walked : Walked l.board.shape l.caller.account l.query l.front l.budget l.last l.search.matcher l.search.front l.search.left l.search.records l.hits;
 }

@@ -1,20 +1,29 @@
 use Rattle.std.proofs.Common.{◌≡◌, ℕ, ◌≤◌, [], ◌∷◌, Err, refl, sym, ap, ◌∙◌, subst}
 use Rattle.std.specs.Prelude.{Result}
 use Rattle.htss_defs.specs.declared.history.SearchError.{SearchError}
+use Rattle.board_core.specs.declared.entry.Entry.{Entry}
 use Rattle.board_core.specs.declared.entry.Entry.TheVariants.{Answered}
 use Rattle.board_core.specs.declared.entry.Reply.TheVariants.{Hits, OverBudget}
+use Rattle.searcher.specs.Searched.{IsSearched}
+use Rattle.searcher.specs.Finding.{LoadsPruned}
 use Rattle.reg_model.specs.Searches.{Counts}
-use Rattle.searcher.specs.Searched.{IsSearched, CountsRows}
 use Rattle.htss_defs.specs.Reply.{IsReply, found, over_budget}
 use Rattle.searcher.specs.Walking.{Whatever}
-use Rattle.searcher.proofs.Answered.{same_front, search_answered, search_quiet, whatever_noted}
+use Rattle.searcher.proofs.Answered.{same_front, search_answered, search_quiet, search_pruned, pruned_noted, whatever_noted}
 use Rattle.searcher.proofs.at_front.search.Goals as goal
 
 pub returns-in-Ok-clause-found : goal.returns-in-Ok-clause-found
 returns-in-Ok-clause-found c = (
   c.load_front-front.ensures.later,
-  search_answered c.args.caller.now c.load_front-front.new.caller c.load_front-front.result c.load_front-front.ensures.after c.load_front-front.ensures.later c.fill.new.caller c.note_hits.new.caller _ refl c.fill.ensures.reads c.fill.ensures.once c.note_hits.ensures,
+  search_answered c.args.caller.now c.load_front-front.new.caller c.load_front-front.result c.load_front-front.ensures.after c.load_front-front.ensures.later c.answer.new.caller c.note_hits.new.caller _ refl c.answer.ensures.reads c.note_hits.ensures,
 )
+
+pub returns-in-Ok-clause-records : goal.returns-in-Ok-clause-records
+returns-in-Ok-clause-records c = whatever_noted c.args.board.now.shape c.answer.new.caller c.note_hits.new.caller (Answered c.args.query.now c.args.budget c.load_front-front.result (Hits c.answer.new.hits.hits) ∷ []) c.load_front-front.result (λ h. Counts c.args.query.now h c.answer.new.hits.records) c.note_hits.ensures c.in-Ok.ensures.found.screened
+
+pub returns-in-Ok-clause-rows : goal.returns-in-Ok-clause-rows
+returns-in-Ok-clause-rows c = pruned_noted c.args.caller.now.account c.answer.new.caller c.note_hits.new.caller (Answered c.args.query.now c.args.budget c.load_front-front.result (Hits c.answer.new.hits.hits) ∷ []) c.args.query.now c.answer.new.hits.rows c.note_hits.ensures
+    (search_pruned c.args.caller.now c.load_front-front.new.caller c.load_front-front.result c.load_front-front.ensures.after c.load_front-front.ensures.later c.answer.new.caller.account c.args.query.now c.answer.new.hits.rows c.in-Ok.ensures.rows)
 
 pub returns-in-Err-OverBudget-clause-over : goal.returns-in-Err-OverBudget-clause-over
 returns-in-Err-OverBudget-clause-over c = λ at e.
@@ -24,22 +33,21 @@ returns-in-Err-OverBudget-clause-over c = λ at e.
     let same : at ≡ front = same_front own at e ∙ told.0 in (
       subst (λ (z : ℕ). c.args.caller.now.account.log.seen ≤ z) (sym same) c.load_front-front.ensures.later,
       subst (λ (x : ℕ × ℕ). IsSearched c.args.caller.now.account c.note_over.new.caller.account x.0 (Answered c.args.query.now c.args.budget x.1 OverBudget ∷ [])) (λ t. (sym same t, sym (same_front own at e) t))
-          (search_answered c.args.caller.now c.load_front-front.new.caller front c.load_front-front.ensures.after c.load_front-front.ensures.later c.fill.new.caller c.note_over.new.caller _ refl c.fill.ensures.reads c.fill.ensures.once c.note_over.ensures),
-      whatever_noted c.args.board.now.shape c.fill.new.caller c.note_over.new.caller (Answered c.args.query.now c.args.budget own OverBudget ∷ []) at (λ h. IsReply c.args.query.now c.args.budget h over_budget) c.note_over.ensures
-          (subst (λ (z : ℕ). Whatever c.args.board.now.shape c.fill.new.caller.account z (λ h. IsReply c.args.query.now c.args.budget h over_budget)) (sym same) told.1.is),
+          (search_answered c.args.caller.now c.load_front-front.new.caller front c.load_front-front.ensures.after c.load_front-front.ensures.later c.answer.new.caller c.note_over.new.caller _ refl c.answer.ensures.reads c.note_over.ensures),
+      whatever_noted c.args.board.now.shape c.answer.new.caller c.note_over.new.caller (Answered c.args.query.now c.args.budget own OverBudget ∷ []) at (λ h. IsReply c.args.query.now c.args.budget h over_budget) c.note_over.ensures
+          (subst (λ (z : ℕ). Whatever c.args.board.now.shape c.answer.new.caller.account z (λ h. IsReply c.args.query.now c.args.budget h over_budget)) (sym same) told.1.is),
+      (
+        told.2.0,
+        pruned_noted c.args.caller.now.account c.answer.new.caller c.note_over.new.caller (Answered c.args.query.now c.args.budget own OverBudget ∷ []) c.args.query.now told.2.0 c.note_over.ensures
+            (search_pruned c.args.caller.now c.load_front-front.new.caller front c.load_front-front.ensures.after c.load_front-front.ensures.later c.answer.new.caller.account c.args.query.now told.2.0 told.2.1),
+      ),
     )
 
 pub returns-in-Err-OutOfMemory-clause-memory : goal.returns-in-Err-OutOfMemory-clause-memory
 returns-in-Err-OutOfMemory-clause-memory c = λ _. (
   c.load_front-front.result,
-  search_quiet c.args.caller.now c.load_front-front.new.caller c.load_front-front.result c.load_front-front.ensures.after c.load_front-front.ensures.later c.fill.new.caller c.fill.ensures.reads c.fill.ensures.once,
+  search_quiet c.args.caller.now c.load_front-front.new.caller c.load_front-front.result c.load_front-front.ensures.after c.load_front-front.ensures.later c.answer.new.caller c.answer.ensures.reads,
 )
 
 pub returns-in-Ok-clause-reply : goal.returns-in-Ok-clause-reply
-returns-in-Ok-clause-reply c = whatever_noted c.args.board.now.shape c.fill.new.caller c.note_hits.new.caller (Answered c.args.query.now c.args.budget c.load_front-front.result (Hits c.fill.new.hits.hits) ∷ []) c.load_front-front.result (λ h. IsReply c.args.query.now c.args.budget h (found c.fill.new.hits.hits)) c.note_hits.ensures c.in-Ok.ensures.found.replies.is
-
-pub returns-in-Ok-clause-records : goal.returns-in-Ok-clause-records
-returns-in-Ok-clause-records c = whatever_noted c.args.board.now.shape c.fill.new.caller c.note_hits.new.caller (Answered c.args.query.now c.args.budget c.load_front-front.result (Hits c.fill.new.hits.hits) ∷ []) c.load_front-front.result (λ h. Counts c.args.query.now h c.fill.new.hits.records) c.note_hits.ensures c.in-Ok.ensures.found.screened
-
-pub returns-in-Ok-clause-rows : goal.returns-in-Ok-clause-rows
-returns-in-Ok-clause-rows c = whatever_noted c.args.board.now.shape c.fill.new.caller c.note_hits.new.caller (Answered c.args.query.now c.args.budget c.load_front-front.result (Hits c.fill.new.hits.hits) ∷ []) c.load_front-front.result (λ h. CountsRows h c.fill.new.hits.rows) c.note_hits.ensures c.in-Ok.ensures.found.rows
+returns-in-Ok-clause-reply c = whatever_noted c.args.board.now.shape c.answer.new.caller c.note_hits.new.caller (Answered c.args.query.now c.args.budget c.load_front-front.result (Hits c.answer.new.hits.hits) ∷ []) c.load_front-front.result (λ h. IsReply c.args.query.now c.args.budget h (found c.answer.new.hits.hits)) c.note_hits.ensures c.in-Ok.ensures.found.replies.is

@@ -1,0 +1,30 @@
+use Rattle.std.proofs.Common.{◌≡◌, ℕ, ◌≤◌, List, refl, sym, ap, ◌∙◌, subst, arith}
+use Rattle.board_core.specs.declared.room.Row.{Row}
+use Rattle.board_core.specs.Each.{Each}
+use Rattle.board_core.specs.Loaded.{IsInTable, KnowsRow}
+use Rattle.searcher.specs.Walking.{Whatever, AllScreened, AreNumbered}
+use Rattle.searcher.proofs.Walks.{seen_still}
+use Rattle.searcher.proofs.Complete.{all_screened, notes_stay}
+use Rattle.searcher.proofs.Answered.{has_read, pruned_later}
+use Rattle.searcher.proofs.Read.{reads_trans}
+use Rattle.searcher.proofs.at_front.answer.Goals as goal
+
+pub numbers_in_order-requires-clause-known : goal.numbers_in_order-requires-clause-known
+numbers_in_order-requires-clause-known c = subst (λ (l : List Row). Each (λ r. KnowsRow c.find_rows.new.caller.account r.block × IsInTable c.args.board.now.shape r.block) l) (sym c.deref.ensures.value) c.in-Ok.ensures.found.known
+
+pub fill-requires-clause-all : goal.fill-requires-clause-all
+fill-requires-clause-all c =
+    let k = c.args.board.now.shape in
+    let query = c.args.query.now in
+    let front = c.args.front in
+    let a = c.args.caller.now.account in
+    let b = c.find_rows.new.caller.account in
+    let d = c.numbers_in_order.new.caller.account in
+    let rows = c.find_rows.new.found.rows.items in
+    let numbers = c.in-Ok-numbers_in_order.numbers.items in
+    let reads = c.numbers_in_order.ensures.reads in
+    let seen : b.log.seen ≡ front = ap (λ l. l.seen) c.find_rows.ensures.visits.log ∙ c.requires.seen in
+    let still : d.log.seen ≡ front = seen_still b d front reads seen in
+    let notes = notes_stay k query a b d front rows c.in-Ok.rows c.in-Ok.ensures.found c.requires.seen reads in
+    let numbered = subst (λ (l : List Row). Each (λ r. AreNumbered k d front r.block numbers) l) c.deref.ensures.value c.in-Ok-numbers_in_order.ensures.all in
+    subst (λ (l : List ℕ). Whatever k d front (AllScreened query l)) (sym c.deref-2.ensures.value) (all_screened k d query front rows numbers (omega arith) notes numbered)
