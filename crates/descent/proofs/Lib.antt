@@ -17,3 +17,5 @@ pub mod Boards
 pub mod CodeLoads
 pub mod Full
 pub mod Whole
+pub mod Covering
+pub mod Noting

@@ -76,7 +76,7 @@ pub loads_on : (xs ys : List BoardLoad) → map load_of (xs ++ ys) ≡ map load_
 loads_on [] ys = refl
 loads_on (x ∷ xs) ys = ap (λ l. load_of x ∷ l) (loads_on xs ys)
 
-entry_back : (n : ℕ) → entry_word (row_named n) ≡ n
+pub entry_back : (n : ℕ) → entry_word (row_named n) ≡ n
 entry_back n = let e : n / 2 ^ 10 * 2 ^ 10 + n % 2 ^ 10 ≡ n = omega arith in e
 
 pub code_seat : (a : Account) (n level word : ℕ) → seat_of (after_code a (row_named n) level word) ≡ with_load (seat_of a) n level word

@@ -7,3 +7,4 @@ pub mod Visits
 pub mod Walks
 pub mod Descended
 pub mod Standing
+pub mod Answered

@@ -2,9 +2,11 @@
 #![tactic(auto)]
 
 mod loads;
+mod need;
 mod rows;
 mod walk;
 
 pub use loads::Visit;
+pub use need::descend;
 pub use rows::{Asks, RowSink};
 pub use walk::sweep;

@@ -84,30 +84,46 @@ fn file(alloc: Global, name: &str, text: &str) -> Result<NamedBytes, Fail> {
     })
 }
 
-// The events of a withdrawal, or why there is none.
+// What the registry answers to a withdrawal.
+fn withdrawn(registry: &mut PlainRegistry, number: u32) -> Result<u32, PlainError>
+    requires { AreMarked registry.old.events }
+    ensures { AreMarked registry.new.events }
+{
+    registry.withdraw(1, number)
+}
+
+// The answer as it is printed.
+fn told(alloc: Global, answer: Result<u32, PlainError>) -> Result<String, Fail> {
+    Ok(match answer {
+        Ok(event) => format!(in alloc; "at {event}")?,
+        Err(PlainError::Unknown { front }) => format!(in alloc; "Unknown {front}")?,
+        Err(PlainError::Gone { at }) => format!(in alloc; "Gone {at}")?,
+        Err(_) => return Err("a registry that is full".into()),
+    })
+}
+
+// The line of the log, where there is an event.
+fn logged(alloc: Global, answer: &Result<u32, PlainError>, number: u32) -> Result<String, Fail> {
+    match answer {
+        Ok(event) => Ok(format!(in alloc; "event {event} withdraw 1 {number}\n")?),
+        Err(_) => Ok(String::new(alloc)),
+    }
+}
+
+// A number is withdrawn.
 fn withdraw(alloc: Global, story: &mut Story, line: u32, number: u32) -> Result<(), Fail>
     requires marked { AreMarked story.old.registry.events }
     requires names { HaveOwnNames story.old.files.items }
     ensures marked { OnOk result (AreMarked story.new.registry.events) }
     ensures names { OnOk result (HaveOwnNames story.new.files.items) }
 {
-    story
-        .script
-        .push_str(&format!(in alloc; "withdraw {number}\nsettle\n")?)?;
-    let told = match story.registry.withdraw(1, number) {
-        Ok(event) => {
-            story
-                .log
-                .push_str(&format!(in alloc; "event {event} withdraw 1 {number}\n")?)?;
-            format!(in alloc; "at {event}")?
-        }
-        Err(PlainError::Unknown { front }) => format!(in alloc; "Unknown {front}")?,
-        Err(PlainError::Gone { at }) => format!(in alloc; "Gone {at}")?,
-        Err(_) => return Err("a registry that is full".into()),
-    };
-    story
-        .blocks
-        .push_str(&format!(in alloc; "withdraw {line} {number} {told}\n")?)?;
+    let answer = withdrawn(&mut story.registry, number);
+    let logged = logged(alloc, &answer, number)?;
+    let block = format!(in alloc; "withdraw {line} {number} {}\n", told(alloc, answer)?)?;
+    let job = format!(in alloc; "withdraw {number}\nsettle\n")?;
+    story.script.push_str(&job)?;
+    story.log.push_str(&logged)?;
+    story.blocks.push_str(&block)?;
     Ok(())
 }
 
@@ -188,7 +204,11 @@ fn search(
         .push_str(&format!(in alloc; "search {name}\nsettle\n")?)?;
     let text = drawn_query(alloc, draws)?;
     let query = query_of(alloc, &text)?;
-    let front = story.registry.events().len() as u32;
+    let events = story.registry.events().len();
+    if events > 1000 {
+        return Err("a registry that is full".into());
+    }
+    let front = events as u32;
     let mut hits = HitList::new(alloc);
     if story
         .registry

@@ -16,4 +16,6 @@ mod lines;
 #[cfg(test)]
 mod made;
 #[cfg(test)]
+mod pieces;
+#[cfg(test)]
 mod small_boards;

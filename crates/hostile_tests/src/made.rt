@@ -66,7 +66,7 @@ pub(crate) const FILES: [Given<'static>; 8] = [
     },
 ];
 
-fn words(alloc: Global, list: &[&str]) -> Result<Vec<String>, Fail> {
+pub(crate) fn words(alloc: Global, list: &[&str]) -> Result<Vec<String>, Fail> {
     let mut words = Vec::new(alloc);
     for word in list {
         words.push(String::from_str(alloc, word)?)?;

@@ -1,1 +1,4 @@
 pub mod LogChecks
+pub mod Tallies
+pub mod Tallying
+pub mod TallyTests

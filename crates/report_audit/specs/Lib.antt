@@ -1,1 +1,4 @@
 pub mod Logs
+pub mod Callers
+pub mod Tallied
+pub mod Reads

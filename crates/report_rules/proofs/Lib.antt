@@ -10,5 +10,4 @@ pub mod Refuted
 pub mod Whole
 pub mod OneFault
 pub mod NoFault
-pub mod Tallies
 pub mod Pushed

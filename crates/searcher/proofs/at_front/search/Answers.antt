@@ -3,10 +3,9 @@ use Rattle.std.specs.Prelude.{Result}
 use Rattle.htss_defs.specs.declared.history.SearchError.{SearchError}
 use Rattle.board_core.specs.declared.entry.Entry.TheVariants.{Answered}
 use Rattle.board_core.specs.declared.entry.Reply.TheVariants.{Hits, OverBudget}
-use Rattle.searcher.specs.Searched.{IsSearched}
-use Rattle.htss_defs.specs.Reply.{IsReply, found, over_budget}
 use Rattle.reg_model.specs.Searches.{Counts}
-use Rattle.searcher.specs.Searched.{CountsRows}
+use Rattle.searcher.specs.Searched.{IsSearched, CountsRows}
+use Rattle.htss_defs.specs.Reply.{IsReply, found, over_budget}
 use Rattle.searcher.specs.Walking.{Whatever}
 use Rattle.searcher.proofs.Answered.{same_front, search_answered, search_quiet, whatever_noted}
 use Rattle.searcher.proofs.at_front.search.Goals as goal
