@@ -2,7 +2,7 @@
 # What a second loader brings: the same records in two files, loaded by a script of two lines, with one loader and with two, and how
 # fast one loader loads them. Best of five runs each, the same files in one run. The board is as large with one loader as with two, and
 # as small as the records need, so that making it counts little. Loading is a whole run less one of an empty script; reading the files and
-# writing the report is in it. The time grows with the square of the records while no page of the tree is split.
+# writing the report is in it.
 # Usage: bench/loaders.sh [RECORDS]
 set -u
 here=$(cd "$(dirname "$0")" && pwd)
