@@ -2,3 +2,4 @@ pub mod LogChecks
 pub mod Tallies
 pub mod Tallying
 pub mod TallyTests
+pub mod Laying

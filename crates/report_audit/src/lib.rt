@@ -1,10 +1,12 @@
 //! Parts of the check of a given report.
 #![tactic(auto)]
 
+mod jobs;
 mod log;
 mod records;
 mod tally;
 
+pub use jobs::{LaidJob, caller_for, lay_out};
 pub use log::{BrokenEvent, first_broken};
 pub use records::{RecordRead, read_records};
 pub use tally::{Caller, Carried, Tally};

@@ -34,7 +34,7 @@ pub struct Tally {
     pub own: u32,
     pub before: u32,
     pub own_before: u32,
-    pub group: u32,
+    pub group: usize,
 }
 
 impl Tally {
@@ -55,7 +55,7 @@ impl Tally {
     }
 
     /// The lines that follow are of this group, which is no earlier one.
-    pub fn enter(&mut self, group: u32)
+    pub fn enter(&mut self, group: usize)
         requires { self.old.group ≤ group }
         ensures tally { (lines : List Line) → IsTallyOf lines self.old → IsTallyOf lines self.new }
         ensures group { self.new.group ≡ group }
