@@ -3,3 +3,4 @@ pub mod Tallies
 pub mod Tallying
 pub mod TallyTests
 pub mod Laying
+pub mod Zips

@@ -3,10 +3,12 @@
 
 mod jobs;
 mod log;
+mod reads;
 mod records;
 mod tally;
 
 pub use jobs::{LaidJob, caller_for, lay_out};
 pub use log::{BrokenEvent, first_broken};
+pub use reads::{JobRead, read_jobs};
 pub use records::{RecordRead, read_records};
 pub use tally::{Caller, Carried, Tally};
