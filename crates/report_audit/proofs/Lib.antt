@@ -4,3 +4,4 @@ pub mod Tallying
 pub mod TallyTests
 pub mod Laying
 pub mod Zips
+pub mod Naming
