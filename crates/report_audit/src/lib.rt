@@ -7,6 +7,8 @@ mod names;
 mod reads;
 mod records;
 mod tally;
+#[cfg(test)]
+mod tests;
 
 pub use jobs::{LaidJob, caller_for, lay_out};
 pub use log::{BrokenEvent, first_broken};

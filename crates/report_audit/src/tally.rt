@@ -40,7 +40,8 @@ pub struct Tally {
 impl Tally {
     /// No line, in the first group.
     pub fn new() -> Tally
-        ensures { IsTallyOf [] result }
+        ensures tally { IsTallyOf [] result }
+        ensures group { result.group ≡ 1 }
     {
         Tally {
             marks: [0; 32],
