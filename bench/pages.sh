@@ -1,5 +1,6 @@
 #!/usr/bin/env bash
 # How many states `take` loads for a page, and how long many calls take, in a pool of 1,048,576 pages of which nine in ten are in use.
+# A page that is retired stands for one that a loader has unlinked: the program does not unlink it, so it could not be proved.
 # The times are the least of five runs. The program stands in no crate of this repository: the script writes it into a folder that goes
 # when the script ends, beside a copy of the crates below it, and `rt try` builds and runs it without a proof.
 # Usage: bench/pages.sh

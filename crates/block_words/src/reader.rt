@@ -1,6 +1,6 @@
 ghost use Rattle.std.specs.Prelude.{◌≡◌, ◌≤◌, ◌<◌, length, slice_index, IfOk};
 ghost use Rattle.board_core.specs.Blocks.{bytes_in, block_size, byte_of, atom_of, bond_of, name_in, molecule_in};
-ghost use Rattle.board_core.specs.Records.{IsRecord};
+ghost use Rattle.board_core.specs.Records.{ShowsRecord};
 
 use crate::head::{atom_words_at, atoms_in, bond_words_at, bonds_in, bytes_in};
 use htss_defs::{Atom, Bond, Mol, Name, OutOfMemory};
@@ -9,7 +9,7 @@ use std::alloc::Global;
 /// The name that the words of a record's block show. It takes no memory.
 pub fn read_name(words: &[u64]) -> Name
     requires whole { block_size (slice_index words.now 0) ≤ length words.now }
-    requires valid { IsRecord (slice_index words.now) }
+    requires valid { ShowsRecord (slice_index words.now) }
     ensures { result ≡ name_in (slice_index words.now) }
 {
     let count = bytes_in(words[0]);
@@ -26,7 +26,7 @@ pub fn read_name(words: &[u64]) -> Name
 /// The molecule that the words of a record's block show, at the cost of its atoms and bonds.
 pub fn read_mol(alloc: Global, words: &[u64]) -> Result<Mol, OutOfMemory>
     requires whole { block_size (slice_index words.now 0) ≤ length words.now }
-    requires valid { IsRecord (slice_index words.now) }
+    requires valid { ShowsRecord (slice_index words.now) }
     ensures { IfOk result (λ mol. mol ≡ molecule_in (slice_index words.now)) }
 {
     let atoms = read_atoms(alloc, words)?;

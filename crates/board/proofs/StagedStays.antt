@@ -1,13 +1,11 @@
 -- A staged record stays staged while its caller goes on, until an event shows it.
-use Rattle.std.proofs.Common.{◌≡◌, ℕ, ◌+◌, ◌-◌, ◌<◌, ◌≤◌, List, [], ◌++◌, length, refl, sym, ap, ◌∙◌, subst, arith, length-append}
+use Rattle.std.proofs.Common.{◌≡◌, ℕ, ◌+◌, ◌-◌, ◌<◌, ◌≤◌, List, [], length, sym, ap, ◌∙◌, subst, arith, length-append}
 use Rattle.std.proofs.lemmas.List.{get_or_append_left}
 use Rattle.htss_defs.specs.declared.shape.Shape.{Shape}
 use Rattle.board_core.specs.declared.account.Account.{Account}
-use Rattle.board_core.specs.declared.account.Who.{Who}
 use Rattle.board_core.specs.Blocks.{atoms_in, block_size}
 use Rattle.board_core.specs.MarkRule.{IsAmong}
 use Rattle.board_core.specs.RoomRule.{IsSealed, own_block, region_of, store_of}
-use Rattle.board_core.specs.Rows.{words_of}
 use Rattle.board_core.proofs.BlockWords.{ShowSame, same_name, same_molecule}
 use Rattle.board_core.specs.declared.room.RoomAccount.{RoomAccount}
 use Rattle.board_core.specs.declared.room.Row.{Row}

@@ -15,10 +15,9 @@ use Rattle.board_core.specs.SeatRule.{WhoFits}
 use Rattle.board_core.specs.MarkRule.{IsAmong}
 use Rattle.board_core.specs.Loaded.{IsPage, HasOwn}
 use Rattle.board_core.specs.Sheets.{owns}
-use Rattle.board_core.specs.After.{without, after_retire}
+use Rattle.board_core.specs.After.{after_retire}
 use Rattle.board_core.specs.Steps.{Mine, Takes, TakesPage, became}
 use Rattle.board_core.proofs.Lists.{inside, each_none, each_snoc, at_end}
-use Rattle.board_core.proofs.PageSums.{without_else}
 use Rattle.board.specs.Seated.{Seated, IsStock, who_of, with_stock}
 use Rattle.board.proofs.Tied.{seated}
 
@@ -33,15 +32,6 @@ stock_empty k own l e = subst (IsStock k own) (sym e) (stock_none k own)
 -- a page more is the caller's own
 pub stock_more : (k : Shape) (own : List Own) (o : Own) (stock : List ℕ) → IsStock k own stock → IsStock k (o ∷ own) stock
 stock_more k own o stock s = record { pages = λ j p there. let old = s.pages j p there in let more : 0 < owns p own = old.1 in (old.0, omega arith); apart = s.apart }
-
--- a page that isn't kept leaves
-pub stock_less : (k : Shape) (own : List Own) (q : ℕ) (stock : List ℕ) → ¬ (IsAmong stock q) → IsStock k own stock → IsStock k (without (λ o. o.page) q own) stock
-stock_less k own q stock apart s = record {
-  pages = λ j p there. let old = s.pages j p there in
-      let same : owns p (without (λ o. o.page) q own) ≡ owns p own = without_else (λ (o : Own). o.page) (λ _. 1) q p (λ e. apart (j, there ∙ ap some (sym e))) own in
-      let more : 0 < owns p own = old.1 in (old.0, omega arith);
-  apart = s.apart;
-}
 
 pub stock_snoc : (k : Shape) (own : List Own) (q : ℕ) (stock : List ℕ) → IsPage k q → 0 < owns q own → ¬ (IsAmong stock q) → IsStock k own stock → IsStock k own (stock ++ q ∷ [])
 stock_snoc k own q stock within mine apart s = record {
@@ -101,7 +91,5 @@ page_seat seen used loader number stock next q found s m n t h =
     (λ lost. subst (HasSeat seen used loader number stock next) (sym (t.lost lost)) record { facts = h.facts })
 
 -- a page was retired
-pub retire_seat : (seen used : ℕ) (loader : Bool) (number : ℕ) (stock : List ℕ) (next q page : ℕ) (m n : Mine) → q ≡ page → ¬ (IsAmong stock page) → n ≡ became m (after_retire m.0.me q) → HasSeat seen used loader number stock next m → HasSeat seen used loader number stock next n
-retire_seat seen used loader number stock next q page m n is apart t h =
-    let (a, b, c, d, e, f, kept, inside_page) = h.facts in
-    subst (HasSeat seen used loader number stock next) (sym t) record { facts = (a, b, c, d, e, f, stock_less m.0.shape m.0.me.pool.own q stock (λ z. apart (subst (IsAmong stock) is z)) kept, inside_page) }
+pub retire_seat : (seen used : ℕ) (loader : Bool) (number : ℕ) (stock : List ℕ) (next q : ℕ) (m n : Mine) → n ≡ became m (after_retire m.0.me q) → HasSeat seen used loader number stock next m → HasSeat seen used loader number stock next n
+retire_seat seen used loader number stock next q m n t h = subst (HasSeat seen used loader number stock next) (sym t) record { facts = h.facts }

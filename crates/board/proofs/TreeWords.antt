@@ -19,6 +19,8 @@ use Rattle.board_core.specs.MarkRule.{IsAmong}
 use Rattle.board_core.proofs.PageSums.{without_else}
 use Rattle.board_core.specs.Steps.{Mine, became, MayStoreOwn, MayLoadSlot, MayLoadLink, MayLoadMore, StoresOwn, LoadsHeader, LoadsSlot, LoadsLink, LoadsMore, Claim, LeafBelow, EntryOf, CodeOf, LeafBehind, InnerBehind, after_claim, LoadsInstead, ClaimsWord}
 use Rattle.board_core.proofs.StoreOwn.{owns_put, own_allowed}
+use Rattle.board_core.specs.Boards.{OnBoard}
+use Rattle.board_core.proofs.Boards.{on_board}
 use Rattle.board_core.proofs.LoadPage.{slot_small, header_allowed, slot_allowed, link_allowed, more_allowed}
 use Rattle.board_core.proofs.ClaimWord.{KeepsCaller, claim_keeps}
 use Rattle.board_core.specs.declared.room.Row.{Row}
@@ -45,19 +47,19 @@ pub header_asked : (k : Shape) (slots id q number page at_word : ℕ) (m : Mine)
 header_asked k slots id q number page at_word m e is same visit = subst (λ (x : ℕ). Allows (Holds k) slots id m at_word (λ n. n) (LoadsHeader x (step slots at_word 0 0 none) m)) (sym e)
     (header_allowed k slots id number at_word m (is ∙ ap (λ z. page_word k z 0) (sym same)) visit)
 
-pub slot_asked : (k : Shape) (slots id q number page place at_word : ℕ) (m : Mine) → q ≡ number → at_word ≡ page_word k page place → (visited m.0.me.tree.reached number).page ≡ page → slot_at (visited m.0.me.tree.reached number).leaf (length (visited m.0.me.tree.reached number).slots) ≡ place → MayLoadSlot k m.0.me number
-    → Allows (Holds k) slots id m at_word (λ n. n) (LoadsSlot q (step slots at_word 0 0 none) m)
-slot_asked k slots id q number page place at_word m e is same slot may = subst (λ (x : ℕ). Allows (Holds k) slots id m at_word (λ n. n) (LoadsSlot x (step slots at_word 0 0 none) m)) (sym e)
-    (slot_allowed k slots id number at_word 0 m (at_word_of k page _ place _ at_word same slot is) may)
+pub slot_asked : (k : Shape) (slots id q number page place at_word : ℕ) (m : Mine) → q ≡ number → at_word ≡ page_word k page place → (visited m.0.me.tree.reached number).page ≡ page → slot_at (visited m.0.me.tree.reached number).leaf (length (visited m.0.me.tree.reached number).slots) ≡ place → m.0.shape ≡ k → MayLoadSlot k m.0.me number
+    → Allows (Holds k) slots id m at_word (λ n. n) (OnBoard (LoadsSlot q) (step slots at_word 0 0 none) m)
+slot_asked k slots id q number page place at_word m e is same slot shape may = subst (λ (x : ℕ). Allows (Holds k) slots id m at_word (λ n. n) (OnBoard (LoadsSlot x) (step slots at_word 0 0 none) m)) (sym e)
+    (on_board k slots id at_word m (λ n. n) (step slots at_word 0 0 none) (LoadsSlot number) shape (slot_allowed k slots id number at_word 0 m (at_word_of k page _ place _ at_word same slot is) may))
 
 pub link_asked : (k : Shape) (slots id q r t number index code page at_word : ℕ) (m : Mine) → (q ≡ number) × (r ≡ index) × (t ≡ code) → at_word ≡ page_word k page (3 + 2 * index) → (visited m.0.me.tree.reached number).page ≡ page → index < 7 → m.0.shape ≡ k → MayLoadLink k m.0.me number index code
-    → Allows (Holds k) slots id m at_word (λ n. n) (LoadsLink q r t (step slots at_word 0 0 none) m)
-link_asked k slots id q r t number index code page at_word m e is same small shape may = subst (λ (x : ℕ × ℕ × ℕ). Allows (Holds k) slots id m at_word (λ n. n) (LoadsLink x.0 x.1 x.2 (step slots at_word 0 0 none) m)) (λ i. (sym e.0 i, sym e.1 i, sym e.2 i))
-    (link_allowed k slots id number index code at_word 0 m (is ∙ ap (λ z. page_word k z (3 + 2 * index)) (sym same)) small shape may)
+    → Allows (Holds k) slots id m at_word (λ n. n) (OnBoard (LoadsLink q r t) (step slots at_word 0 0 none) m)
+link_asked k slots id q r t number index code page at_word m e is same small shape may = subst (λ (x : ℕ × ℕ × ℕ). Allows (Holds k) slots id m at_word (λ n. n) (OnBoard (LoadsLink x.0 x.1 x.2) (step slots at_word 0 0 none) m)) (λ i. (sym e.0 i, sym e.1 i, sym e.2 i))
+    (on_board k slots id at_word m (λ n. n) (step slots at_word 0 0 none) (LoadsLink number index code) shape (link_allowed k slots id number index code at_word 0 m (is ∙ ap (λ z. page_word k z (3 + 2 * index)) (sym same)) small shape may))
 
-pub more_asked : (k : Shape) (slots id q number page at_word : ℕ) (m : Mine) → q ≡ number → at_word ≡ page_word k page 1 → (visited m.0.me.tree.reached number).page ≡ page → m.0.shape ≡ k → MayLoadMore k m.0.me number → Allows (Holds k) slots id m at_word (λ n. n) (LoadsMore q (step slots at_word 0 0 none) m)
-more_asked k slots id q number page at_word m e is same shape may = subst (λ (x : ℕ). Allows (Holds k) slots id m at_word (λ n. n) (LoadsMore x (step slots at_word 0 0 none) m)) (sym e)
-    (more_allowed k slots id number at_word 0 m (is ∙ ap (λ z. page_word k z 1) (sym same)) shape may)
+pub more_asked : (k : Shape) (slots id q number page at_word : ℕ) (m : Mine) → q ≡ number → at_word ≡ page_word k page 1 → (visited m.0.me.tree.reached number).page ≡ page → m.0.shape ≡ k → MayLoadMore k m.0.me number → Allows (Holds k) slots id m at_word (λ n. n) (OnBoard (LoadsMore q) (step slots at_word 0 0 none) m)
+more_asked k slots id q number page at_word m e is same shape may = subst (λ (x : ℕ). Allows (Holds k) slots id m at_word (λ n. n) (OnBoard (LoadsMore x) (step slots at_word 0 0 none) m)) (sym e)
+    (on_board k slots id at_word m (λ n. n) (step slots at_word 0 0 none) (LoadsMore number) shape (more_allowed k slots id number at_word 0 m (is ∙ ap (λ z. page_word k z 1) (sym same)) shape may))
 
 pub slot_inside : (b : Bool) (n place : ℕ) → slot_at b n ≡ place → n < page_room b → place < 16
 slot_inside b n place e room = let small = slot_small b n room in omega arith
@@ -93,7 +95,7 @@ own_seat seen used loader number stock next p i x m n t h =
     subst (HasSeat seen used loader number stock next) (sym t) record { facts = (a, b, c, d, e, f, stock_same m.0.shape m.0.me.pool.own (put_own p i x m.0.me.pool.own) stock (λ q. owns_put p i x q m.0.me.pool.own) kept, page) }
 
 -- the log, the region and the stock are as they were
-seat_kept : (seen used : ℕ) (loader : Bool) (number : ℕ) (stock : List ℕ) (next : ℕ) (m n : Mine) (b : Account) → n ≡ became m b → KeepsCaller m.0.me b → ((p : ℕ) → IsAmong stock p → owns p m.0.me.pool.own ≤ owns p b.pool.own) → HasSeat seen used loader number stock next m → HasSeat seen used loader number stock next n
+pub seat_kept : (seen used : ℕ) (loader : Bool) (number : ℕ) (stock : List ℕ) (next : ℕ) (m n : Mine) (b : Account) → n ≡ became m b → KeepsCaller m.0.me b → ((p : ℕ) → IsAmong stock p → owns p m.0.me.pool.own ≤ owns p b.pool.own) → HasSeat seen used loader number stock next m → HasSeat seen used loader number stock next n
 seat_kept seen used loader number stock next m n after t keeps stocked h =
     let (a, b, c, d, e, f, kept, inside) = h.facts in
     subst (HasSeat seen used loader number stock next) (sym t) record {
@@ -113,11 +115,11 @@ seat_kept seen used loader number stock next m n after t keeps stocked h =
 slot_same : (a : Account) (j n : ℕ) → KeepsCaller a (after_slot a j n)
 slot_same a j n = record { who = refl; log = refl; room = refl }
 
-link_same : (a : Account) (j i c n : ℕ) (leaf : Bool) → KeepsCaller a (after_link a j i c n leaf) × ((after_link a j i c n leaf).pool ≡ a.pool)
+pub link_same : (a : Account) (j i c n : ℕ) (leaf : Bool) → KeepsCaller a (after_link a j i c n leaf) × ((after_link a j i c n leaf).pool ≡ a.pool)
 link_same a j i c zero leaf = (record { who = refl; log = refl; room = refl }, refl)
 link_same a j i c (suc n) leaf = (record { who = refl; log = refl; room = refl }, refl)
 
-still_owned : (stock : List ℕ) (a b : Account) → b.pool ≡ a.pool → (p : ℕ) → IsAmong stock p → owns p a.pool.own ≤ owns p b.pool.own
+pub still_owned : (stock : List ℕ) (a b : Account) → b.pool ≡ a.pool → (p : ℕ) → IsAmong stock p → owns p a.pool.own ≤ owns p b.pool.own
 still_owned stock a b same p among = let e : owns p b.pool.own ≡ owns p a.pool.own = ap (λ (x : PoolAccount). owns p x.own) same in omega arith
 
 lost_seat : (claim : Claim) (seen used : ℕ) (loader : Bool) (number : ℕ) (stock : List ℕ) (next found : ℕ) (s : Step (Unit {0})) (m n : Mine) → LoadsInstead claim s m found n → HasSeat seen used loader number stock next m → HasSeat seen used loader number stock next n

@@ -2,8 +2,8 @@
 ghost use Rattle.std.specs.Prelude.{◌≡◌, ℕ, ◌+◌, ◌<◌, ◌≤◌};
 ghost use Rattle.board_core.specs.declared.room.Row.{Row};
 ghost use Rattle.board_core.specs.Words.{total_of};
-ghost use Rattle.board_core.specs.Blocks.{block_size, atoms_in, ended_at};
-ghost use Rattle.board_core.specs.Loaded.{KnowsBlock, KnowsHead, IsInTable};
+ghost use Rattle.board_core.specs.Blocks.{block_size, atoms_in, shown_at, ended_at};
+ghost use Rattle.board_core.specs.Loaded.{KnowsBlock, KnowsHead, KnowsRow, IsInTable};
 ghost use Rattle.board_core.specs.Steps.{MayBeSome};
 ghost use Rattle.board_core.specs.After.{after_head, after_mark, after_fact, after_code};
 ghost use Rattle.board.specs.Seated.{IsOf, with_account};
@@ -49,6 +49,18 @@ pub fn load_mark(board: &Board, caller: &mut Caller, block: u64) -> u64
 {
     let shared = &board.table.shared;
     let at = block as usize + 2;
+    shared.load::<LoadMark>(&mut caller.seat, at)
+}
+
+/// Loads the first mark of a block: 0, or the number of the event that publishes it. A code of an atom of the block was loaded.
+pub fn load_shown(board: &Board, caller: &mut Caller, block: u64) -> u64
+    requires fits { IsOf board.now caller.old }
+    requires known { KnowsRow caller.old.account block }
+    requires place { IsInTable board.now.shape block }
+    ensures { caller.new ≡ with_account caller.old (after_mark caller.old.account (block + shown_at) result) }
+{
+    let shared = &board.table.shared;
+    let at = block as usize + 1;
     shared.load::<LoadMark>(&mut caller.seat, at)
 }
 

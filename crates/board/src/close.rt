@@ -5,11 +5,12 @@ ghost use Rattle.htss_defs.specs.History.{HasEvent};
 ghost use Rattle.board_core.specs.LogWord.{kind_in, loader_in, target_in};
 ghost use Rattle.board_core.specs.Blocks.{block_size, first_of};
 ghost use Rattle.board_core.specs.Each.{Each};
+ghost use Rattle.board_core.specs.Loaded.{IsPage};
 ghost use Rattle.board_core.specs.Accounts.{accounts_in, keeping, view};
 ghost use Rattle.board.specs.Seated.{IsOf, IsAtRest, account_of};
-ghost use Rattle.board.specs.Closed.{IsSettled, IsShown, words_from};
+ghost use Rattle.board.specs.Closed.{IsSettled, IsShown, words_from, state_in, pages_in};
 
-use crate::places::{log_place, words_in};
+use crate::places::{log_place, page_place, state_place, words_in};
 use crate::plays::Kept;
 use crate::{Board, Caller};
 use atomic_table::{Closed, Seat};
@@ -102,6 +103,30 @@ impl Final {
             events.push(event)?;
         }
         Ok(events)
+    }
+
+    /// The shape that the board was opened with.
+    pub fn shape(&self) -> Shape
+        ensures { result ≡ self.now.shape }
+    {
+        self.shape
+    }
+
+    /// The state of a page, by its number from 1: 0 of a free one, 1 of a busy one, else one more than the stamp of a retired one.
+    pub fn page_state(&self, page: u32) -> u64
+        requires { IsPage self.now.shape page }
+        ensures { result ≡ state_in self.now.states page }
+    {
+        self.closed.word(state_place(self.shape, page))
+    }
+
+    /// One of the sixteen words of a page, by the page's number from 1 and the word's place in it from 0.
+    pub fn page_word(&self, page: u32, place: u8) -> u64
+        requires page { IsPage self.now.shape page }
+        requires place { place < 16 }
+        ensures { result ≡ pages_in self.now.pages page place }
+    {
+        self.closed.word(page_place(self.shape, page, place))
     }
 
     // The event of the log word at this place of the log, counted from 0.

@@ -2,7 +2,6 @@
 // step, and takes no memory.
 ghost use Rattle.std.specs.Prelude.{◌≡◌, ◌≢◌, ◌+◌, ◌<◌, ◌≤◌, ℕ, IsTrue, MatchBool};
 ghost use Rattle.board_core.specs.Sheets.{owns};
-ghost use Rattle.board_core.specs.MarkRule.{IsAmong};
 ghost use Rattle.board_core.specs.EpochRule.{last_epoch};
 ghost use Rattle.board_core.specs.Loaded.{IsPage};
 ghost use Rattle.board_core.specs.Steps.{MayTakePage, MayRetire};
@@ -70,7 +69,6 @@ pub fn exchange_state(board: &Board, caller: &mut Caller, page: u32, found: u64)
 fn retire_with<P: Paged>(board: &Board, caller: &mut Caller, page: u32, stamp: u64)
     requires fits { IsOf board.now caller.old }
     requires may { MayRetire board.now.shape caller.old.account page stamp }
-    requires free { ¬ (IsAmong caller.old.stock page) }
     requires most { stamp ≤ last_epoch }
     requires is { P.page ≡ page }
     ensures { caller.new ≡ with_account caller.old (after_retire caller.old.account page) }
@@ -80,11 +78,10 @@ fn retire_with<P: Paged>(board: &Board, caller: &mut Caller, page: u32, stamp: u
     shared.store::<RetirePage<P>>(&mut caller.seat, at, stamp + 1);
 }
 
-/// Retires a page that the caller has unlinked, with the stamp that was loaded for it, or an own page with an epoch that was loaded.
+/// Retires a page that the caller has unlinked, with the stamp that was loaded for it.
 pub fn store_retired(board: &Board, caller: &mut Caller, page: u32, stamp: u64)
     requires fits { IsOf board.now caller.old }
     requires may { MayRetire board.now.shape caller.old.account page stamp }
-    requires free { ¬ (IsAmong caller.old.stock page) }
     requires most { stamp ≤ last_epoch }
     ensures { caller.new ≡ with_account caller.old (after_retire caller.old.account page) }
 {

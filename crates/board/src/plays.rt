@@ -1,8 +1,11 @@
 // What each kind of step tells, and how seats are split and joined.
 use crate::blocks::Coded;
+use crate::exchange::Replaces;
+use crate::met::Met;
 use crate::pages::Paged;
 use crate::regions::{Completed, Ended, Marked};
 use crate::steps::{Answers, Shown};
+use crate::swept::Sweeps;
 use crate::tree::{Claims, Keeps, Reaches};
 use atomic_table::{Join, Play, Split};
 use board_core::View;
@@ -260,8 +263,9 @@ pub(crate) struct LoadSlot<R> {
 
 impl<R: Reaches> Play<(), View> for LoadSlot<R> {
     ghost use Rattle.board_core.specs.Steps.{LoadsSlot};
+    ghost use Rattle.board_core.specs.Boards.{OnBoard};
 
-    ghost then = { LoadsSlot R.number };
+    ghost then = { OnBoard (LoadsSlot R.number) };
 }
 
 pub(crate) struct LoadLink<R> {
@@ -270,8 +274,9 @@ pub(crate) struct LoadLink<R> {
 
 impl<R: Reaches> Play<(), View> for LoadLink<R> {
     ghost use Rattle.board_core.specs.Steps.{LoadsLink};
+    ghost use Rattle.board_core.specs.Boards.{OnBoard};
 
-    ghost then = { LoadsLink R.number R.index R.code };
+    ghost then = { OnBoard (LoadsLink R.number R.index R.code) };
 }
 
 pub(crate) struct LoadMore<R> {
@@ -280,8 +285,9 @@ pub(crate) struct LoadMore<R> {
 
 impl<R: Reaches> Play<(), View> for LoadMore<R> {
     ghost use Rattle.board_core.specs.Steps.{LoadsMore};
+    ghost use Rattle.board_core.specs.Boards.{OnBoard};
 
-    ghost then = { LoadsMore R.number };
+    ghost then = { OnBoard (LoadsMore R.number) };
 }
 
 pub(crate) struct ClaimWord<C> {
@@ -294,12 +300,65 @@ impl<C: Claims> Play<(), View> for ClaimWord<C> {
     ghost then = { ClaimsWord C.claim };
 }
 
+pub(crate) struct ExchangeLeaf<X> {
+    exchange: PhantomData<X>,
+}
+
+impl<X: Replaces> Play<(), View> for ExchangeLeaf<X> {
+    ghost use Rattle.board_core.specs.Steps.{ExchangesLeaf};
+
+    ghost then = { ExchangesLeaf X.exchange };
+}
+
 pub(crate) struct LoadOwnHead;
 
 impl Play<(), View> for LoadOwnHead {
     ghost use Rattle.board_core.specs.Steps.{LoadsOwnHead};
 
     ghost then = { λ s m found n. LoadsOwnHead s.word s m found n };
+}
+
+pub(crate) struct LoadEntry<E> {
+    entry: PhantomData<E>,
+}
+
+impl<E: Met> Play<(), View> for LoadEntry<E> {
+    ghost use Rattle.board_core.specs.Met.{LoadsEntry};
+
+    ghost then = { LoadsEntry E.number E.index };
+}
+
+pub(crate) struct LoadMetHead<E> {
+    entry: PhantomData<E>,
+}
+
+impl<E: Met> Play<(), View> for LoadMetHead<E> {
+    ghost use Rattle.board_core.specs.Met.{LoadsMetHead};
+
+    ghost then = { LoadsMetHead E.entry };
+}
+
+pub(crate) struct LoadMetCode<E> {
+    entry: PhantomData<E>,
+}
+
+impl<E: Met> Play<(), View> for LoadMetCode<E> {
+    ghost use Rattle.board_core.specs.Met.{LoadsMetCode};
+
+    ghost then = { LoadsMetCode E.entry E.code };
+}
+
+pub(crate) struct NoteSwept<S> {
+    rows: PhantomData<S>,
+}
+
+impl<S: Sweeps> Play<(), View> for NoteSwept<S> {
+    ghost use Rattle.std.specs.Prelude.{[], ◌∷◌};
+    ghost use Rattle.board_core.specs.declared.entry.Entry.TheVariants.{Swept};
+    ghost use Rattle.board_core.specs.Steps.{Answers};
+    ghost use Rattle.board_core.specs.Boards.{OnBoard};
+
+    ghost then = { OnBoard (Answers (Swept S.need S.front S.rows ∷ [])) };
 }
 
 /// A note has seen what the caller has.

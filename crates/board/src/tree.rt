@@ -3,6 +3,7 @@ ghost use Rattle.std.specs.Prelude.{◌≡◌, ◌≢◌, ◌+◌, ◌*◌, ◌<
 ghost use Rattle.board_core.specs.ClassTree.{slot_at, header_of};
 ghost use Rattle.board_core.specs.KnownPages.{place_of};
 ghost use Rattle.board_core.specs.Loaded.{IsPage, IsVisit};
+ghost use Rattle.board_core.specs.Boards.{SomeBoard};
 ghost use Rattle.board_core.specs.Steps.{MayStoreOwn, MayLoadSlot, MayLoadLink, MayLoadMore, Claim, CodeOf, MayClaim, after_claim, MayLinkLeaf, MayClaimEntry, MayClaimCode, MayLinkMoreLeaf, MayLinkInner};
 ghost use Rattle.board_core.specs.After.{visited, after_own, after_slot, after_link, after_more, after_linked, after_inner, after_entry};
 ghost use Rattle.board_core.specs.Sheets.{owns};
@@ -127,19 +128,22 @@ fn load_slot_of<R: Reaches>(
     requires page { (visited caller.old.account.tree.reached number).page ≡ page }
     requires place { slot_at (visited caller.old.account.tree.reached number).leaf (length (visited caller.old.account.tree.reached number).slots) ≡ place }
     requires is { R.number ≡ number }
-    ensures { caller.new ≡ with_account caller.old (after_slot caller.old.account number result) }
+    ensures after { caller.new ≡ with_account caller.old (after_slot caller.old.account number result) }
+    ensures board { SomeBoard board.now.shape caller.new.account }
 {
     let at = page_place(board.shape, page, place);
     board.table.shared.load::<LoadSlot<R>>(&mut caller.seat, at)
 }
 
-/// Loads the next code or entry of a page that was reached: the place is that of its word in the page.
+/// Loads the next code or entry of a page that was reached: the place is that of its word in the page. Then there is a board of which
+/// the rule holds and that has the caller, as after each load of a page word.
 pub fn load_slot(board: &Board, caller: &mut Caller, page: u32, number: u64, place: u8) -> u64
     requires fits { IsOf board.now caller.old }
     requires may { MayLoadSlot board.now.shape caller.old.account number }
     requires page { (visited caller.old.account.tree.reached number).page ≡ page }
     requires place { slot_at (visited caller.old.account.tree.reached number).leaf (length (visited caller.old.account.tree.reached number).slots) ≡ place }
-    ensures { caller.new ≡ with_account caller.old (after_slot caller.old.account number result) }
+    ensures after { caller.new ≡ with_account caller.old (after_slot caller.old.account number result) }
+    ensures board { SomeBoard board.now.shape caller.new.account }
 {
     load_slot_of::<Brand>(board, caller, page, number, place)
 }
@@ -159,6 +163,7 @@ fn load_link_of<R: Reaches>(
     requires is { (R.number ≡ number) × (R.index ≡ index) × (R.code ≡ code) }
     ensures after { (leaf : Bool) × (caller.new ≡ with_account caller.old (after_link caller.old.account number index code result leaf)) }
     ensures page { result ≢ 0 → IsPage board.now.shape result }
+    ensures board { SomeBoard board.now.shape caller.new.account }
 {
     let at = page_place(board.shape, page, 3 + 2 * index);
     board.table.shared.load::<LoadLink<R>>(&mut caller.seat, at)
@@ -179,6 +184,7 @@ pub fn load_link(
     requires small { index < 7 }
     ensures after { (leaf : Bool) × (caller.new ≡ with_account caller.old (after_link caller.old.account number index code result leaf)) }
     ensures page { result ≢ 0 → IsPage board.now.shape result }
+    ensures board { SomeBoard board.now.shape caller.new.account }
 {
     load_link_of::<Brand>(board, caller, page, number, index, code)
 }
@@ -191,6 +197,7 @@ fn load_more_of<R: Reaches>(board: &Board, caller: &mut Caller, page: u32, numbe
     ensures after { caller.new ≡ with_account caller.old (after_more caller.old.account number result) }
     ensures page { result ≢ 0 → IsPage board.now.shape result }
     ensures rank { result ≢ 0 → (visited caller.old.account.tree.reached number).rank + 1 < board.now.shape.chain }
+    ensures board { SomeBoard board.now.shape caller.new.account }
 {
     let at = page_place(board.shape, page, 1);
     board.table.shared.load::<LoadMore<R>>(&mut caller.seat, at)
@@ -204,6 +211,7 @@ pub fn load_more(board: &Board, caller: &mut Caller, page: u32, number: u64) -> 
     ensures after { caller.new ≡ with_account caller.old (after_more caller.old.account number result) }
     ensures page { result ≢ 0 → IsPage board.now.shape result }
     ensures rank { result ≢ 0 → (visited caller.old.account.tree.reached number).rank + 1 < board.now.shape.chain }
+    ensures board { SomeBoard board.now.shape caller.new.account }
 {
     load_more_of::<Brand>(board, caller, page, number)
 }

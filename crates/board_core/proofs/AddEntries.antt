@@ -18,6 +18,7 @@ use Rattle.board_core.proofs.LogFrame.{log_same}
 use Rattle.board_core.proofs.LoadFrame.{loads_same, not_later}
 use Rattle.board_core.proofs.Stepped.{by_log, still}
 use Rattle.board_core.proofs.Answered.{answered_stories}
+use Rattle.board_core.proofs.SweptFrame.{swept_more, swept_none}
 use Rattle.board_core.proofs.ChainFrame.{chains_more}
 use Rattle.board_core.proofs.Stepped.{chains_here}
 
@@ -32,6 +33,7 @@ answer k p vs id v es r at true_all = by_log k p p (history_of k p) (history_of 
     (full_more k vs id v (after_answer v.me es) es r.full at true_all.rooms refl refl)
     (empty_more k p.pool.states vs id v (after_answer v.me es) es r.empty at (pool_true k p.pool.states vs id v es r.pool.states at true_all.pages) refl)
     (chains_more k p.pages p.pool.states vs id v (after_answer v.me es) es r.chains at refl (chains_here k p (history_of k p) vs id v es r at true_all.chains) refl)
+    (swept_more k p (history_of k p) vs id v (after_answer v.me es) es r at (swept_none k p vs v.me es true_all.chains) refl)
     (loads_same k p.log p.log vs id v (after_answer v.me es) r.loads at (not_later p.log p.log refl refl) refl)
 
 pub answer_allowed : (k : Shape) (slots id : ℕ) (m : Mine) (es : List Entry) → AreTrue k m.0.me es → Allows (Holds k) slots id m 1 (λ n. n) (Answers es (step slots 1 0 0 none) m)

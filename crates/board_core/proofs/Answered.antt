@@ -1,5 +1,5 @@
 -- Entries are added: what a step that answers leaves, and that true answers are true of the board.
-use Rattle.std.proofs.Common.{◌≡◌, ℕ, zero, suc, List, [], ◌∷◌, ◌++◌, set, sym, refl, subst}
+use Rattle.std.proofs.Common.{◌≡◌, ◌<◌, ◌≤◌, ℕ, zero, suc, List, [], ◌∷◌, ◌++◌, set, sym, refl, subst}
 use mathlib.Core.Option.{some}
 use lib.ListN.{get_elem?}
 use Rattle.htss_defs.specs.declared.shape.Shape.{Shape}
@@ -20,7 +20,9 @@ use Rattle.board_core.proofs.RecordFrame.{known_records}
 use Rattle.board_core.proofs.MarkKnown.{known_marks}
 use Rattle.board_core.specs.Holds.{Rule}
 use Rattle.board_core.specs.After.{noted}
-use Rattle.board_core.specs.Steps.{Known, Agrees, AreTrue}
+use Rattle.board_core.specs.MarkRule.{ShowsAt, MarkRule}
+use Rattle.board_core.specs.RoomRule.{IsSealed, SomeAccount}
+use Rattle.board_core.specs.Steps.{Known, FirstMark, Agrees, AreTrue}
 use Rattle.board_core.proofs.Lists.{each_none, each_cons}
 use Rattle.board_core.proofs.Everyone.{mine, changed}
 use Rattle.board_core.proofs.StoryFrame.{before_same, story_longer}
@@ -30,9 +32,21 @@ noted_true : (k : Shape) (h : List Event) (l : Loads) (es : List Entry) → Each
 noted_true k h l [] all = each_none (λ n. IsTrueLog k h n.entry)
 noted_true k h l (e ∷ es) all = each_cons (λ n. IsTrueLog k h n.entry) _ (noted l es) (all zero e refl) (noted_true k h l es (λ j. all (suc j)))
 
+-- the first mark of a sealed block
+first_mark : (k : Shape) (p : Parts) (vs : List View) (block : ℕ) → MarkRule k p.regions p.log.front p.log.slots vs → SomeAccount (λ x. IsSealed x.room.sealed block) vs → FirstMark k p block
+first_mark k p vs block r (j, u, at, i, a, there, (b, s, in_list, place)) =
+    let first = (r.marks j u at i a there b s in_list).first in
+    subst (FirstMark k p) place record { told = λ number above within is. subst (ShowsAt p.log.front p.log.slots s.place) is (first.told (subst (λ (z : ℕ). 0 < z) (sym is) above) (subst (λ (z : ℕ). z ≤ p.log.front) (sym is) within)); stands = first.stands }
+
 -- what each account knows agrees with the board
 pub agree_all : (k : Shape) (p : Parts) (h : List Event) (vs : List View) → Rule k p h vs → EachAccount (Agrees k p) vs
-agree_all k p h vs r j u at i x there = record { seen = (r.log.hands j u at i x there).seen; shown = r.loads j u at i x there; blocks = r.facts.stand j u at i x there }
+agree_all k p h vs r j u at i x there = record {
+  seen = (r.log.hands j u at i x there).seen;
+  shown = r.loads j u at i x there;
+  blocks = r.facts.stand j u at i x there;
+  swept = λ t n here. (r.swept j u at i x there t n here).0;
+  firsts = λ n l loaded. first_mark k p vs l.row.block r.marks ((r.facts.of_blocks j u at i x there).codes n l loaded).sealed;
+}
 
 pub agrees : (k : Shape) (p : Parts) (h : List Event) (vs : List View) (id : ℕ) (v : View) → Rule k p h vs → get_elem? vs id ≡ some v → Agrees k p v.me
 agrees k p h vs id v r at = mine (Agrees k p) vs id v at (agree_all k p h vs r)

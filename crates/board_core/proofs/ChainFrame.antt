@@ -1,5 +1,5 @@
 -- Answers of a full chain: what a step leaves of them, and that they are true by what was read.
-use Rattle.std.proofs.Common.{◌≡◌, ◌≢◌, ℕ, zero, suc, ◌+◌, ◌*◌, ◌<◌, ◌≤◌, Bool, true, false, List, [], ◌∷◌, ◌++◌, length, set, sym, refl, ap, ◌∙◌, subst, arith, ⊎_elim}
+use Rattle.std.proofs.Common.{◌≡◌, ◌≢◌, ℕ, zero, suc, ◌+◌, ◌*◌, ◌%◌, ◌<◌, ◌≤◌, ◌⊎◌, Bool, true, false, List, [], ◌∷◌, ◌++◌, length, set, sym, refl, ap, ◌∙◌, subst, arith, ⊎_elim, inl}
 use mathlib.Core.Option.{some}
 use mathlib.Core.Logic.{dite}
 use native.Mathlib.Decide.{ℕ_discrete}
@@ -31,10 +31,21 @@ use Rattle.board_core.proofs.Seen.{has_at}
 
 -- ---- pages of the tree stay in it, and their words other than 0
 
--- what a step owes
+-- a page that is the first and the last of its chain, by its header and its next page
+pub record IsAlone (page : ℕ → ℕ) : Type 0 where
+  pub first : page 0 < 32
+  pub last : page 1 ≡ 0
+
+-- a link of an inner page
+pub record IsLinkWord (page : ℕ → ℕ) (i : ℕ) : Type 0 where
+  pub inner : page 0 % 4 ≡ 2
+  pub pair : ℕ
+  pub place : i ≡ 3 + 2 * pair
+
+-- what a step owes: only such a page may leave the tree, and only a link may become another
 pub record KeepsPages (w u : ℕ → ℕ → ℕ) (s z : Sheet) : Type 0 where
-  pub linked : (p : ℕ) → IsLinked s p → IsLinked z p
-  pub words : (p i : ℕ) → IsLinked s p → w p i ≢ 0 → u p i ≡ w p i
+  pub linked : (p : ℕ) → IsLinked s p → IsLinked z p ⊎ IsAlone (w p)
+  pub words : (p i : ℕ) → IsLinked s p → w p i ≢ 0 → (u p i ≡ w p i) ⊎ IsLinkWord (w p) i
 
 some_kind : (leaf : Bool) (n m : ℕ) → kind_of leaf + n + m ≢ 0
 some_kind true n m e = omega arith
@@ -46,13 +57,32 @@ chain_later w u s z count e d = let c = d.chain in record {
     leaf = c.leaf;
     depth = c.depth;
     page = c.page;
-    header = λ i h. e.words (c.page i h) 0 (d.linked i h) (λ none_here. some_kind c.leaf (4 * c.depth) (32 * i) (sym (c.header i h) ∙ none_here)) ∙ c.header i h;
-    full = λ i j h less none_here. c.full i j h less (sym (e.words (c.page i h) (slot_at c.leaf j) (d.linked i h) (c.full i j h less)) ∙ none_here);
-    next = λ i h g. e.words (c.page i h) 1 (d.linked i h) (c.more i h g) ∙ c.next i h g;
-    more = λ i h g none_here. c.more i h g (sym (e.words (c.page i h) 1 (d.linked i h) (c.more i h g)) ∙ none_here);
+    header = λ i h. same i h 0 (λ none_here. some_kind c.leaf (4 * c.depth) (32 * i) (sym (c.header i h) ∙ none_here)) (λ pair e. omega arith) ∙ c.header i h;
+    full = λ i j h less none_here. c.full i j h less (sym (same_slot i j h less) ∙ none_here);
+    next = λ i h g. same i h 1 (c.more i h g) (λ pair e. omega arith) ∙ c.next i h g;
+    more = λ i h g none_here. c.more i h g (sym (same i h 1 (c.more i h g) (λ pair e. omega arith)) ∙ none_here);
   };
-  linked = λ i h. e.linked (c.page i h) (d.linked i h);
+  linked = λ i h. ⊎_elim (λ (l : IsLinked z (c.page i h)). l) (λ (o : IsAlone (w (c.page i h))). absurd (not_alone i h o)) (e.linked (c.page i h) (d.linked i h));
+  several = d.several;
 }
+  where
+    same : (i : ℕ) (h : i < count) (t : ℕ) → w (d.chain.page i h) t ≢ 0 → ((pair : ℕ) → t ≢ 3 + 2 * pair) → u (d.chain.page i h) t ≡ w (d.chain.page i h) t
+    same i h t some_n other = ⊎_elim (λ (y : u (d.chain.page i h) t ≡ w (d.chain.page i h) t). y) (λ (y : IsLinkWord (w (d.chain.page i h)) t). absurd (other y.pair y.place))
+        (e.words (d.chain.page i h) t (d.linked i h) some_n)
+
+    -- a slot is no link
+    slot_kept : (b : Bool) (i j : ℕ) (h : i < count) → w (d.chain.page i h) 0 ≡ kind_of b + 4 * d.chain.depth + 32 * i → w (d.chain.page i h) (slot_at b j) ≢ 0 → u (d.chain.page i h) (slot_at b j) ≡ w (d.chain.page i h) (slot_at b j)
+    slot_kept true i j h header some_n = ⊎_elim (λ (y : u (d.chain.page i h) (2 + j) ≡ w (d.chain.page i h) (2 + j)). y)
+        (λ (y : IsLinkWord (w (d.chain.page i h)) (2 + j)). let inner : w (d.chain.page i h) 0 % 4 ≡ 2 = y.inner in absurd (omega arith)) (e.words (d.chain.page i h) (2 + j) (d.linked i h) some_n)
+    slot_kept false i j h header some_n = same i h (2 + 2 * j) some_n (λ pair y. omega arith)
+
+    same_slot : (i j : ℕ) (h : i < count) → j < page_room d.chain.leaf → u (d.chain.page i h) (slot_at d.chain.leaf j) ≡ w (d.chain.page i h) (slot_at d.chain.leaf j)
+    same_slot i j h less = slot_kept d.chain.leaf i j h (d.chain.header i h) (d.chain.full i j h less)
+
+    not_alone : (i : ℕ) (h : i < count) → IsAlone (w (d.chain.page i h)) → ⊥
+    not_alone i h o = dite (ℕ_discrete (i + 1) count)
+        (λ y. let header = d.chain.header i h in let first = o.first in let several = d.several in omega arith)
+        (λ y. d.chain.more i h (omega arith) o.last)
 
 true_later : (k : Shape) (w u : ℕ → ℕ → ℕ) (s z : Sheet) → KeepsPages w u s z → (x : Entry) → IsTrueChain k w s x → IsTrueChain k u z x
 true_later k w u s z e (ChainFull pages) t = (t.0, chain_later w u s z pages e t.1)
@@ -92,7 +122,7 @@ chains_later k w u s z vs id v a r at e entries = moved (λ x. AreTrueOf k w s x
     (λ x _ all. all_later k w u s z x.entries e all) r
 
 pub same_pages : (w : ℕ → ℕ → ℕ) (s z : Sheet) → ((p : ℕ) → IsLinked s p → IsLinked z p) → KeepsPages w w s z
-same_pages w s z more = record { linked = more; words = λ p i l some_n. refl }
+same_pages w s z more = record { linked = λ p l. inl (more p l); words = λ p i l some_n. inl refl }
 
 same_sheet : (w : ℕ → ℕ → ℕ) (states : ℕ → ℕ) (vs : List View) (id : ℕ) (v : View) (a : Account) → get_elem? vs id ≡ some v → a.pool ≡ v.me.pool → KeepsPages w w (sheet_of states vs) (sheet_of states (set vs id (with_me v a)))
 same_sheet w states vs id v a at pool = same_pages w (sheet_of states vs) (sheet_of states (set vs id (with_me v a)))
@@ -166,6 +196,7 @@ module _ (w : ℕ → ℕ → ℕ) (s : Sheet) (m : ℕ → Place) (codes : ℕ 
           more = leads;
         };
         linked = λ i h. (back i h).1.linked;
+        several = several;
       }
     where
       linked : (b : Bool) → y.leaf ≡ b → IsLinked s y.page
@@ -182,7 +213,7 @@ module _ (w : ℕ → ℕ → ℕ) (s : Sheet) (m : ℕ → Place) (codes : ℕ 
   entry_told k a old known (LogFull front) told = tt
   entry_told k a old known (DataFull left need) told = tt
   entry_told k a old known NoPage told = tt
-  entry_told k a old known (Swept need front rows) told = tt
+  entry_told k a old known (Swept need front rows) told = absurd told
 
   pub chains_true : (k : Shape) (a : Account) (old : ℕ → Type 0) (es : List Entry) → KnowsPages w s m codes old a.tree.reached → Each (IsToldChain k a) es → Each (IsTrueChain k w s) es
   chains_true k a old es known told j x there = entry_told k a old known x (told j x there)

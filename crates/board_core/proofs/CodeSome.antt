@@ -11,6 +11,10 @@ use native.Mathlib.Decide.{ℕ_discrete}
 use Rattle.htss_defs.specs.Graph.{Graph}
 use Rattle.htss_defs.specs.Distances.{has_walk, is_within, count_within}
 use Rattle.htss_defs.specs.Molecule.{Molecule, IsAtom, IsMolecule, molecule_graph}
+use Rattle.board_core.specs.Blocks.{atoms_in, atom_words_at, atom_of, molecule_in}
+use Rattle.board_core.specs.Records.{IsRecord}
+use Rattle.board_core.specs.Rows.{code_of}
+use Rattle.board_core.proofs.Shown.{length_first}
 use Rattle.htss_defs.specs.Codes.{word_of, no_atom, element_at, own_lane, counts_in, near_lane, code_at}
 
 some_word : (count : ℕ → ℕ) → count 0 ≢ 0 → word_of count ≢ 0
@@ -51,3 +55,11 @@ some_code m k x h low high z = dite (ℕ_discrete k 0)
     let element : 1 ≤ element_at m x = atom.element.0 in
     some_word (own_lane m x) (λ none. let e : element_at m x ≡ 0 = none in omega arith) (ap (λ b. word_of (cond b (own_lane m x) (near_lane m k x))) (sym (eq-eqb k 0 is)) ∙ z))
     (λ other. some_word (near_lane m k x) (some_near (molecule_graph m) k x (counts_in m 0) low high refl) (ap (λ b. word_of (cond b (own_lane m x) (near_lane m k x))) (sym (ne_eqb k 0 other)) ∙ z))
+
+-- and so none of the codes in a block that shows a record
+pub record_code : (block : ℕ → ℕ) (atom code : ℕ) → IsRecord block → 0 < atom → atom ≤ atoms_in (block 0) → code < 5 → code_of block atom code ≢ 0
+record_code block atom code shows above most few z =
+    let same : atom - 1 + 1 ≡ atom = omega arith in
+    let is : code_of block atom code ≡ code_at (molecule_in block) code atom = shows.codes (atom - 1) code (omega arith) few ∙ ap (code_at (molecule_in block) code) same in
+    let size : length (molecule_in block).atoms ≡ atoms_in (block 0) = length_first (λ i. atom_of (block (atom_words_at (block 0) + i))) (atoms_in (block 0)) in
+    some_code (molecule_in block) code atom shows.molecule above (omega arith) (sym is ∙ z)

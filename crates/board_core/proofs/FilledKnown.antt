@@ -24,6 +24,7 @@ known_filled w u s m codes old rs p i n l zero_word e some_r k = known_words w u
       slots = λ a v some_v y. e.others x.page (slot_at x.leaf a) (other_word w p i zero_word x.page (slot_at x.leaf a) v some_v y) ∙ y;
       more = λ q h. let f = (k.fits j x there).more q h in e.others x.page 1 (other_word w p i zero_word x.page 1 q f.2 f.0);
       old = λ _ o. inl o;
+      turned = λ _ g. g;
       still = λ _ o. dite (ℕ_discrete x.page p)
           (λ y. inl (subst (λ (q : ℕ). IsLinked s q) (sym y) l))
           (λ y. inr (subst (λ (g : ℕ → ℕ). IsFullLeaf g x) (λ a b. sym (e.others x.page b (inl y)) a) o));

@@ -22,6 +22,7 @@ use Rattle.board_core.proofs.LoadFrame.{loads_same, not_later}
 use Rattle.board_core.proofs.Stepped.{by_log, words_moved}
 use Rattle.board_core.proofs.Changed.{set_lock}
 use Rattle.board_core.proofs.Answered.{answered_stories}
+use Rattle.board_core.proofs.SweptFrame.{swept_more, swept_none}
 use Rattle.board_core.proofs.ChainFrame.{chains_more}
 use Rattle.board_core.proofs.Stepped.{chains_here}
 
@@ -58,6 +59,7 @@ free k p vs id v es r at may true_all = by_log k p (record p { log = record p.lo
     (full_more k vs id v (after_free v.me es) es r.full at true_all.rooms refl refl)
     (empty_more k p.pool.states vs id v (after_free v.me es) es r.empty at (pool_true k p.pool.states vs id v es r.pool.states at true_all.pages) refl)
     (chains_more k p.pages p.pool.states vs id v (after_free v.me es) es r.chains at refl (chains_here k p (history_of k p) vs id v es r at true_all.chains) refl)
+    (swept_more k p (history_of k p) vs id v (after_free v.me es) es r at (swept_none k p vs v.me es true_all.chains) refl)
     (loads_same k p.log (record p.log { lock = 0 }) vs id v (after_free v.me es) r.loads at (not_later p.log (record p.log { lock = 0 }) refl refl) refl)
 
 pub free_allowed : (k : Shape) (slots id : ℕ) (m : Mine) (es : List Entry) → MayFree m.0.me → AreTrue k m.0.me es → Allows (Holds k) slots id m 1 (λ _. 0) (λ _. Frees es (step slots 1 0 0 none) m 0)

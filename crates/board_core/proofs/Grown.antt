@@ -1,10 +1,11 @@
 -- What an account has loaded stays loaded as it loads more, and a board that agrees with the later account agrees with the earlier.
-use Rattle.std.proofs.Common.{◌≡◌, ℕ, ◌+◌, ◌-◌, ◌<◌, ◌≤◌, [], ◌∷◌, length, sym, refl, subst, arith}
+use Rattle.std.proofs.Common.{◌≡◌, ℕ, ◌+◌, ◌-◌, ◌<◌, ◌≤◌, List, [], ◌∷◌, ◌++◌, length, sym, refl, subst, arith}
 use mathlib.Core.Option.{some}
 use lib.ListN.{get_elem?}
 use Rattle.atomic_table.proofs.Lists.{at_longer, at_last}
 use Rattle.htss_defs.specs.declared.shape.Shape.{Shape}
 use Rattle.board_core.specs.declared.account.Account.{Account}
+use Rattle.board_core.specs.declared.entry.Noted.{Noted}
 use Rattle.board_core.specs.declared.room.Row.{Row}
 use Rattle.board_core.specs.declared.loads.Loads.{Loads}
 use Rattle.board_core.specs.Words.{Parts, log_at}
@@ -17,7 +18,7 @@ use Rattle.board_core.specs.Steps.{Agrees, MayBe}
 -- ---- accounts that grow
 
 pub grows_same : (a : Account) → Grows a a
-grows_same a = record { seen = omega arith; shown = λ j x there. there; heads = λ j x there. there; marks = λ j x there. there; facts = λ j x there. there; codes = λ j x there. there; fronts = λ j x there. there }
+grows_same a = record { seen = omega arith; shown = λ j x there. there; heads = λ j x there. there; marks = λ j x there. there; facts = λ j x there. there; codes = λ j x there. there; fronts = λ j x there. there; entries = λ j x there. there }
 
 pub grows_trans : (a b c : Account) → Grows a b → Grows b c → Grows a c
 grows_trans a b c f g = let first = f.seen in let second = g.seen in record {
@@ -28,11 +29,20 @@ grows_trans a b c f g = let first = f.seen in let second = g.seen in record {
   facts = λ j x there. g.facts j x (f.facts j x there);
   codes = λ j x there. g.codes j x (f.codes j x there);
   fronts = λ j x there. g.fronts j x (f.fronts j x there);
+  entries = λ j x there. g.entries j x (f.entries j x there);
 }
 
+-- entries are only added
+pub entries_same : (a b : Account) → b.entries ≡ a.entries → (j : ℕ) (x : Noted) → get_elem? a.entries j ≡ some x → get_elem? b.entries j ≡ some x
+entries_same a b same j x there = subst (λ (es : List Noted). get_elem? es j ≡ some x) (sym same) there
+
+pub entries_added : (a b : Account) (es : List Noted) → b.entries ≡ a.entries ++ es → (j : ℕ) (x : Noted) → get_elem? a.entries j ≡ some x → get_elem? b.entries j ≡ some x
+entries_added a b es same j x there = subst (λ (ns : List Noted). get_elem? ns j ≡ some x) (sym same) (at_longer a.entries es j x there)
+
 -- nothing was loaded
-pub grows_quiet : (a b : Account) → a.log.seen ≤ b.log.seen → b.loads ≡ a.loads → Grows a b
-grows_quiet a b seen same = record {
+pub grows_quiet : (a b : Account) → a.log.seen ≤ b.log.seen → b.loads ≡ a.loads → ((j : ℕ) (x : Noted) → get_elem? a.entries j ≡ some x → get_elem? b.entries j ≡ some x) → Grows a b
+grows_quiet a b seen same entries = record {
+  entries = entries;
   seen = seen;
   shown = λ j x there. subst (λ (l : Loads). get_elem? l.shown j ≡ some x) (sym same) there;
   heads = λ j x there. subst (λ (l : Loads). get_elem? l.heads j ≡ some x) (sym same) there;
@@ -43,7 +53,7 @@ grows_quiet a b seen same = record {
 }
 
 pub grows_front : (a : Account) (front : ℕ) → a.log.seen ≤ front → Grows a (after_front a front)
-grows_front a front later = record { seen = later; shown = λ j x there. there; heads = λ j x there. there; marks = λ j x there. there; facts = λ j x there. there; codes = λ j x there. there; fronts = λ j x there. at_longer a.loads.fronts (front ∷ []) j x there }
+grows_front a front later = record { seen = later; shown = λ j x there. there; heads = λ j x there. there; marks = λ j x there. there; facts = λ j x there. there; codes = λ j x there. there; fronts = λ j x there. at_longer a.loads.fronts (front ∷ []) j x there; entries = λ j x there. there }
 
 pub grows_shown : (a : Account) (place word : ℕ) → Grows a (after_shown a place word)
 grows_shown a place word = let same = grows_same a in record {
@@ -54,6 +64,7 @@ grows_shown a place word = let same = grows_same a in record {
   facts = same.facts;
   codes = same.codes;
   fronts = same.fronts;
+  entries = same.entries;
 }
 
 pub grows_head : (a : Account) (place word : ℕ) → Grows a (after_head a place word)
@@ -65,6 +76,7 @@ grows_head a place word = let same = grows_same a in record {
   facts = same.facts;
   codes = same.codes;
   fronts = same.fronts;
+  entries = same.entries;
 }
 
 pub grows_mark : (a : Account) (place word : ℕ) → Grows a (after_mark a place word)
@@ -76,6 +88,7 @@ grows_mark a place word = let same = grows_same a in record {
   facts = same.facts;
   codes = same.codes;
   fronts = same.fronts;
+  entries = same.entries;
 }
 
 pub grows_fact : (a : Account) (place word : ℕ) → Grows a (after_fact a place word)
@@ -87,6 +100,7 @@ grows_fact a place word = let same = grows_same a in record {
   facts = λ j x there. at_longer a.loads.facts (record { place = place; word = word } ∷ []) j x there;
   codes = same.codes;
   fronts = same.fronts;
+  entries = same.entries;
 }
 
 pub grows_code : (a : Account) (row : Row) (code word : ℕ) → Grows a (after_code a row code word)
@@ -98,6 +112,7 @@ grows_code a row code word = let same = grows_same a in record {
   facts = same.facts;
   codes = λ j x there. at_longer a.loads.codes (record { row = row; code = code; word = word } ∷ []) j x there;
   fronts = same.fronts;
+  entries = same.entries;
 }
 
 -- ---- what was loaded stays loaded
@@ -128,7 +143,6 @@ module _ (k : Shape) (a b : Account) (grown : Grows a b) where
   block_stays block words h = record {
     head = head_stays block (words 0) h.head;
     facts = λ i past within. fact_stays block i (words i) (h.facts i past within);
-    codes = λ atom code below few. code_stays block (atom + 1) code _ (h.codes atom code below few);
     bonds = λ i past within. fact_stays block i (words i) (h.bonds i past within);
   }
 
@@ -143,7 +157,7 @@ module _ (k : Shape) (a b : Account) (grown : Grows a b) where
   }
 
   pub agrees_before : (p : Parts) → Agrees k p b → Agrees k p a
-  agrees_before p agrees = let less = grown.seen in let seen = agrees.seen in record { seen = omega arith; shown = λ j x there. agrees.shown j x (grown.shown j x there); blocks = stand_before p.regions p.log.front agrees.blocks }
+  agrees_before p agrees = let less = grown.seen in let seen = agrees.seen in record { seen = omega arith; shown = λ j x there. agrees.shown j x (grown.shown j x there); blocks = stand_before p.regions p.log.front agrees.blocks; firsts = λ j l there. agrees.firsts j l (grown.codes j l there); swept = λ j x there. agrees.swept j x (grown.entries j x there) }
 
   pub board_before : (p : Parts) → MayBe k p b → MayBe k p a
   board_before p f = record { known = f.known; agrees = agrees_before p f.agrees }

@@ -18,6 +18,9 @@ use Rattle.board_core.specs.LogRule.{hand_of, is_held, word_or_0, HandFits}
 use Rattle.board_core.specs.Truths.{IsTrueLog, IsTrueStory}
 use Rattle.board_core.specs.LoadRule.{LoadFits}
 use Rattle.board_core.specs.RoomRule.{store_of, RoomFits, ShowsSealed}
+use Rattle.board_core.specs.Swept.{IsSweptOn}
+use Rattle.board_core.specs.Rows.{HasRow}
+use Rattle.board_core.proofs.SweptFrame.{OwnSwept, swept_views}
 use Rattle.board_core.proofs.RoomFrame.{none_fits}
 use Rattle.board_core.proofs.Some.{some_gathered}
 use Rattle.board_core.specs.Truths.{IsTrueRoom}
@@ -88,6 +91,7 @@ gather k p h vs id other v w r at apart there =
       published = published_gather k vs id other v w r.published at there;
       tree = tree_gather k p.pool.states p.pages (codes_in k p.regions) (IsOldRow k p.regions p.log.slots) vs id other v w (no_old k p.regions p.log.slots) (λ n. placed_begun k vs n r.rows) at apart there (sheet_gather p.pool.states vs id other v w at apart there) r.tree;
       chains = subst (λ (x : Sheet). ChainRule k p.pages x all) (sym (sheet_gather p.pool.states vs id other v w at apart there)) (each_gathered (λ x. Each (λ e. IsTrueChain k p.pages (sheet_of p.pool.states vs) e.entry) x.entries) vs id other v w at there (each_none (λ e. IsTrueChain k p.pages (sheet_of p.pool.states vs) e.entry)) r.chains);
+      swept = swept_views k p vs all all (λ n t. some_gathered (λ x. HasRow n x.tree.placed) vs id other v w at apart there t) (each_gathered (OwnSwept k p vs) vs id other v w at there (each_none (λ e. IsSweptOn k p vs e.entry)) r.swept);
       empty = each_gathered (λ x. Each (λ e. IsTruePool k p.pool.states e.entry) x.entries) vs id other v w at there (each_none (λ e. IsTruePool k p.pool.states e.entry)) r.empty;
       loads = each_gathered (λ x. Each (LoadFits k p.log) x.loads.shown) vs id other v w at there (each_none (LoadFits k p.log)) r.loads;
     }

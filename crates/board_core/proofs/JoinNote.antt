@@ -19,6 +19,8 @@ use Rattle.board_core.specs.LogRule.{Hand, hand_of, is_held, word_or_0, Holds as
 use Rattle.board_core.specs.Truths.{IsTrueLog, IsTrueStory}
 use Rattle.board_core.specs.LoadRule.{LoadFits}
 use Rattle.board_core.specs.RoomRule.{store_of, RoomFits, ShowsSealed}
+use Rattle.board_core.specs.Swept.{IsSweptOn}
+use Rattle.board_core.specs.Rows.{HasRow}
 use Rattle.board_core.proofs.RoomFrame.{none_fits}
 use Rattle.board_core.proofs.Some.{some_left}
 use Rattle.board_core.proofs.FullFrame.{full_same}
@@ -47,6 +49,7 @@ use Rattle.board_core.specs.OldRows.{IsOldRow}
 use Rattle.board_core.proofs.RowFrame.{rows_left, placed_begun}
 use Rattle.board_core.proofs.TreeFrame.{tree_note_goes}
 use Rattle.board_core.proofs.PoolSeats.{sheet_note_goes}
+use Rattle.board_core.proofs.SweptFrame.{OwnSwept, swept_here, swept_views}
 use Rattle.board_core.proofs.ChainFrame.{chains_same}
 use Rattle.board_core.specs.Sheets.{Sheet, sheet_of}
 use Rattle.board_core.specs.ChainRule.{IsTrueChain, ChainRule}
@@ -63,6 +66,13 @@ left_same f vs other front w there is blank none_gone =
 
 note_clash : {n : ℕ} → Note ≡ Loader n → ⊥
 note_clash e = cc
+
+no_row : (n front : ℕ) (w : View) → w ≡ view w.shape (account Note front) → (i : ℕ) × (a : Account) × (get_elem? (accounts_in w) i ≡ some a) × HasRow n a.tree.placed → ⊥
+no_row n front w is t = none_placed front (subst (λ (x : View). (i : ℕ) × (a : Account) × (get_elem? (accounts_in x) i ≡ some a) × HasRow n a.tree.placed) is t)
+  where
+    none_placed : (front : ℕ) → (i : ℕ) × (a : Account) × (get_elem? (account Note front ∷ []) i ≡ some a) × HasRow n a.tree.placed → ⊥
+    none_placed front (zero, a, there, r) = let none_here : HasRow n [] = subst (λ (x : Account). HasRow n x.tree.placed) (sym (some-injective (account Note front) a there)) r in some-ne-none none_here.0 (sym none_here.1.1)
+    none_placed front (suc i, a, there, r) = some-ne-none a (sym there)
 
 no_note : (word front : ℕ) (w : View) → w ≡ view w.shape (account Note front) → (i : ℕ) × (a : Account) × (get_elem? (accounts_in w) i ≡ some a) × ShowsSealed word a → ⊥
 no_note word front w is t = no_one word front (subst (λ (x : View). (i : ℕ) × (a : Account) × (get_elem? (accounts_in x) i ≡ some a) × ShowsSealed word a) is t)
@@ -112,6 +122,7 @@ note_goes k p h vs other front w r there is =
       published = published_left k vs other r.published;
       tree = tree_note_goes k p.pool.states p.pages (codes_in k p.regions) (IsOldRow k p.regions p.log.slots) vs other front w (no_old k p.regions p.log.slots) (λ n. placed_begun k vs n r.rows) there is (sheet_note_goes p.pool.states vs other front w there is) r.tree;
       chains = subst (λ (x : Sheet). ChainRule k p.pages x (set vs other gone)) (sym (sheet_note_goes p.pool.states vs other front w there is)) (each_left (λ x. Each (λ e. IsTrueChain k p.pages (sheet_of p.pool.states vs) e.entry) x.entries) vs other (each_none (λ e. IsTrueChain k p.pages (sheet_of p.pool.states vs) e.entry)) r.chains);
+      swept = swept_views k p vs (set vs other gone) (set vs other gone) (λ n t. some_left (λ x. HasRow n x.tree.placed) vs other w there (λ y. no_row n front w is y) t) (each_left (OwnSwept k p vs) vs other (each_none (λ e. IsSweptOn k p vs e.entry)) r.swept);
       empty = each_left (λ x. Each (λ e. IsTruePool k p.pool.states e.entry) x.entries) vs other (each_none (λ e. IsTruePool k p.pool.states e.entry)) r.empty;
     }
 
@@ -146,6 +157,7 @@ hear k p h vs id front v r at seen = by_log k p p h h vs id v (after_hear v.me f
     (full_same k vs id v (after_hear v.me front) r.full at refl refl)
     (empty_same k p.pool.states vs id v (after_hear v.me front) r.empty at refl)
     (chains_same k p.pages p.pool.states vs id v (after_hear v.me front) r.chains at refl refl)
+    (swept_here k p h vs id v (after_hear v.me front) r at refl)
     (loads_same k p.log p.log vs id v (after_hear v.me front) r.loads at (not_later p.log p.log refl refl) refl)
 
 pub note_joins : (k : Shape) (id other front : ℕ) (v w : View) → w ≡ view w.shape (account Note front) → Joins (Holds k) id v other w (with_me v (after_hear v.me w.me.log.seen)) gone

@@ -11,7 +11,7 @@ use Rattle.board_core.specs.declared.tree.Reached.{Reached}
 use Rattle.board_core.specs.Each.{Each, In}
 use Rattle.board_core.specs.Sheets.{Sheet, IsLinked}
 use Rattle.board_core.specs.ClassTree.{Place, chained, slot_at, page_room, Stands, IsBelow, Tree}
-use Rattle.board_core.specs.KnownPages.{place_of, IsFullLeaf, ReachedFits, IsMate, HasEarlier, IsRead, IsEnd, EndTells, KnowsPages}
+use Rattle.board_core.specs.KnownPages.{place_of, IsFullLeaf, ReachedFits, IsMate, HasEarlier, IsRead, IsEnd, EndTells, IsTurned, KnowsPages}
 use Rattle.board_core.proofs.Lists.{each_set, each_snoc, inside}
 use Rattle.board_core.proofs.Seen.{IsAtEnd, end_tells}
 
@@ -52,6 +52,16 @@ longer [] j x y h = absurd (some-ne-none x (sym h))
 longer (z ∷ rs) zero x y h = h
 longer (z ∷ rs) (suc j) x y h = longer rs j x y h
 
+-- of a page by its place
+abbrev IsTurnedAt : Sheet → (ℕ → Place) → ℕ → Place → Type 0
+IsTurnedAt s m page p = p.rank ≡ 0 → (q : ℕ) × IsLinked s q × ((m q).path ≡ p.path) × ((m q).rank ≡ 0) × ((q ≡ page) ⊎ ((m q).leaf ≡ false))
+
+-- the first page at a path stays, or an inner page takes its place
+pub turned_stays : (s z : Sheet) (m v : ℕ → Place) → ((p : ℕ) → IsLinked s p → IsLinked z p) → ((p : ℕ) → IsLinked s p → v p ≡ m p) → (x : Reached) → IsTurned s m x → IsTurned z v x
+turned_stays s z m v more same x turned first =
+    let (p, l, path, rank, either) = turned first in
+    let e = same p l in (p, more p l, ap (λ (z : Place). z.path) e ∙ path, ap (λ (z : Place). z.rank) e ∙ rank, ⊎_elim (λ (y : p ≡ x.page). inl y) (λ (y : (m p).leaf ≡ false). inr (ap (λ (z : Place). z.leaf) e ∙ y)) either)
+
 module _ (w : ℕ → ℕ → ℕ) (s : Sheet) (m : ℕ → Place) (codes : ℕ → List ℕ) (put old : ℕ → Type 0) (t : Tree w s m codes put) (stands : (r : ℕ) → old r → Stands w s m r)
     (rs : List Reached) (k : KnowsPages w s m codes old rs) where
   -- more is known of one reached page
@@ -77,6 +87,8 @@ module _ (w : ℕ → ℕ → ℕ) (s : Sheet) (m : ℕ → Place) (codes : ℕ 
         ends = each_set (λ (z : Reached). IsEnd z.leaf z → (r : ℕ) → old r → EndTells codes ss z.leaf z r) rs j y
             (λ is r o. end_tells w s m codes put t ss fits chain y (j, set_here rs j y (inside rs j x at)) (n.end is) r (stands r o) (λ leaf. gone leaf r o))
             (λ i z _ there is r o. grown_tells codes rs ss g z.leaf z r (k.ends i z there is r o));
+        turned = each_set (λ (z : Reached). z.leaf ≡ true → IsTurned s m z) rs j y
+            (subst (λ (z : ℕ × Place). z.1.leaf ≡ true → IsTurnedAt s m z.0 z.1) (λ i. (sym n.more.page i, sym e i)) (k.turned j x at)) (λ i z _ there. k.turned i z there);
         absent = each_set (λ (z : Reached). (i c : ℕ) → get_elem? z.links i ≡ some Absent → get_elem? z.slots i ≡ some c → (r : ℕ) → old r → IsBelow (z.path ++ c ∷ []) (codes r) → ⊥) rs j y n.absent (λ i z _ there. k.absent i z there);
         gone = each_set (λ (z : Reached). z.leaf ≡ true → (r : ℕ) → old r → IsBelow z.path (codes r) → IsLinked s z.page ⊎ ((i : ℕ) × (i < 14) × (w z.page (2 + i) ≡ r))) rs j y gone (λ i z _ there. k.gone i z there);
       }
@@ -112,6 +124,8 @@ module _ (w : ℕ → ℕ → ℕ) (s : Sheet) (m : ℕ → Place) (codes : ℕ 
         } k.fits;
         chain = each_snoc (HasEarlier ss) rs y (grown_earlier rs ss g y n.chain) (λ i z there. grown_earlier rs ss g z (k.chain i z there));
         ends = each_snoc (λ (z : Reached). IsEnd z.leaf z → (r : ℕ) → old r → EndTells codes ss z.leaf z r) rs y (λ is r o. absurd (not_end y.leaf y n.slots n.zero is)) (λ i z there is r o. grown_tells codes rs ss g z.leaf z r (k.ends i z there is r o));
+        turned = each_snoc (λ (z : Reached). z.leaf ≡ true → IsTurned s m z) rs y
+            (λ _ first. (y.page, n.linked, ap (λ (p : Place). p.path) n.place, ap (λ (p : Place). p.rank) n.place ∙ first, inl refl)) k.turned;
         absent = each_snoc (λ (z : Reached). (i c : ℕ) → get_elem? z.links i ≡ some Absent → get_elem? z.slots i ≡ some c → (r : ℕ) → old r → IsBelow (z.path ++ c ∷ []) (codes r) → ⊥) rs y (λ i c h _ r o b. some-ne-none Absent (sym h ∙ ap (λ (l : List Link). get_elem? l i) n.links)) k.absent;
         gone = each_snoc (λ (z : Reached). z.leaf ≡ true → (r : ℕ) → old r → IsBelow z.path (codes r) → IsLinked s z.page ⊎ ((i : ℕ) × (i < 14) × (w z.page (2 + i) ≡ r))) rs y (λ _ r o b. inl n.linked) k.gone;
       }
@@ -123,6 +137,7 @@ pub record Stays (w u : ℕ → ℕ → ℕ) (s z : Sheet) (m v : ℕ → Place)
   pub slots : (i n : ℕ) → n ≢ 0 → w x.page (slot_at x.leaf i) ≡ n → u x.page (slot_at x.leaf i) ≡ n
   pub more : (p : ℕ) → x.more ≡ To p → u x.page 1 ≡ w x.page 1
   pub old : x.leaf ≡ true → IsLinked s x.page → IsLinked z x.page ⊎ (IsFullLeaf (u x.page) x)
+  pub turned : x.leaf ≡ true → IsTurned s m x → IsTurned z v x
   pub still : x.leaf ≡ true → IsFullLeaf (w x.page) x → IsLinked z x.page ⊎ IsFullLeaf (u x.page) x
 
 pub known_words : (w u : ℕ → ℕ → ℕ) (s z : Sheet) (m v : ℕ → Place) (codes : ℕ → List ℕ) (old : ℕ → Type 0) (rs : List Reached) → KnowsPages w s m codes old rs
@@ -141,6 +156,7 @@ known_words w u s z m v codes old rs k stays leaves some_r = record {
   };
   chain = k.chain;
   ends = k.ends;
+  turned = λ j x there e. (stays j x there).turned e (k.turned j x there e);
   absent = k.absent;
   gone = λ j x there e r o b. ⊎_elim (λ (l : IsLinked s x.page). leaves j x there e l r o b)
       (λ (y : (i : ℕ) × (i < 14) × (w x.page (2 + i) ≡ r)). inr (y.0, y.1, subst (λ (c : Bool). w x.page (slot_at c y.0) ≡ r → u x.page (slot_at c y.0) ≡ r) e ((stays j x there).slots y.0 r (some_r r o)) y.2))

@@ -44,7 +44,11 @@ pub mod TreeFrame
 pub mod ChainFrame
 pub mod PageLoads
 pub mod Linked
+pub mod Split
+pub mod Places
+pub mod Planned
 pub mod LoadSealed
+pub mod SweptFrame
 pub mod Stepped
 pub mod MarkWord
 pub mod MarkStore
@@ -69,6 +73,7 @@ pub mod LoadFront
 pub mod LoadLog
 pub mod LoadBlock
 pub mod AddEntries
+pub mod AddSwept
 pub mod Pooled
 pub mod LoadEpoch
 pub mod AdvanceEpoch
@@ -87,8 +92,15 @@ pub mod LinkLeaf
 pub mod ClaimEntry
 pub mod ClaimCode
 pub mod LinkNext
+pub mod LetGo
+pub mod RowCodes
+pub mod OwnWords
+pub mod SplitTree
+pub mod ExchangeLeaf
 pub mod ClaimWord
 pub mod LoadOwnCode
+pub mod LoadMet
+pub mod Boards
 pub mod SplitNote
 pub mod SplitCaller
 pub mod JoinNote

@@ -34,7 +34,7 @@ use Rattle.board_core.proofs.Some.{some_changed}
 use Rattle.board_core.proofs.PageSums.{where_same}
 use Rattle.board_core.proofs.PoolFrame.{each_both}
 use Rattle.board_core.proofs.Stored.{stored_here, stored_else, page_here, page_else}
-use Rattle.board_core.proofs.KnownSteps.{Stays, known_words}
+use Rattle.board_core.proofs.KnownSteps.{Stays, known_words, turned_stays}
 use Rattle.board_core.proofs.FilledKnown.{other_word}
 use Rattle.board_core.proofs.Kept.{kept_words}
 use Rattle.board_core.proofs.TreeFrame.{placed_split, rows_stay}
@@ -133,6 +133,7 @@ module _ (w u : ℕ → ℕ → ℕ) (s z : Sheet) (m v : ℕ → Place) (c : �
     slots = λ a b some_b y. e.others x.page (slot_at x.leaf a) (other_word w q i zero_word x.page (slot_at x.leaf a) b some_b y) ∙ y;
     more = λ p h. let f = (k.fits j x there).more p h in e.others x.page 1 (other_word w q i zero_word x.page 1 p f.2 f.0);
     old = λ _ o. inl (still x.page o);
+    turned = λ _ g. turned_stays s z m v still same x g;
     still = λ _ o. dite (ℕ_discrete x.page q)
         (λ y. inl (subst (λ (p : ℕ). IsLinked z p) (sym y) (still q l)))
         (λ y. inr (subst (λ (g : ℕ → ℕ). IsFullLeaf g x) (λ a b. sym (e.others x.page b (inl y)) a) o));
@@ -149,7 +150,7 @@ module _ (w u : ℕ → ℕ → ℕ) (s z : Sheet) (m v : ℕ → Place) (c : �
 
 -- pages of the tree stay in it, with their words other than 0
 pub keeps_linked : (w u : ℕ → ℕ → ℕ) (s z : Sheet) (q i n : ℕ) → ((p : ℕ) → IsLinked s p → IsLinked z p) → w q i ≡ 0 → IsPut w u q i n → KeepsPages w u s z
-keeps_linked w u s z q i n more zero_word e = record { linked = more; words = λ p j l some_n. e.others p j (other_word w q i zero_word p j (w p j) some_n refl) }
+keeps_linked w u s z q i n more zero_word e = record { linked = λ p l. inl (more p l); words = λ p j l some_n. inl (e.others p j (other_word w q i zero_word p j (w p j) some_n refl)) }
 
 -- ---- rows that are placed
 

@@ -23,6 +23,7 @@ use Rattle.board_core.proofs.LogFrame.{hand_at, owner}
 use Rattle.board_core.proofs.StoryFrame.{stories_same}
 use Rattle.board_core.proofs.LoadFrame.{loads_same, not_later}
 use Rattle.board_core.proofs.Stepped.{by_log, still}
+use Rattle.board_core.proofs.SweptFrame.{swept_here}
 use Rattle.board_core.proofs.ChainFrame.{chains_same}
 
 fronted_holds : (w : LogWords) (x : Hand) (b : Holding) → HoldsLock w x b → HoldsLock w record { who = x.who; log = record { seen = w.front; holding = fronted b; pending = x.log.pending } } (fronted b)
@@ -58,6 +59,7 @@ load_front k p h vs id v r at = by_log k p p h h vs id v (after_front v.me p.log
     (full_same k vs id v (after_front v.me p.log.front) r.full at refl refl)
     (empty_same k p.pool.states vs id v (after_front v.me p.log.front) r.empty at refl)
     (chains_same k p.pages p.pool.states vs id v (after_front v.me p.log.front) r.chains at refl refl)
+    (swept_here k p h vs id v (after_front v.me p.log.front) r at refl)
     (loads_same k p.log p.log vs id v (after_front v.me p.log.front) r.loads at (not_later p.log p.log refl refl) refl)
 
 pub front_allowed : (k : Shape) (slots id : ℕ) (m : Mine) → m.0.me.who ≢ Gone → Allows (Holds k) slots id m 0 (λ n. n) (LoadsFront (step slots 0 0 0 none) m)

@@ -27,6 +27,7 @@ use Rattle.board_core.proofs.LogFrame.{log_same, hand_at}
 use Rattle.board_core.proofs.StoryFrame.{stories_same}
 use Rattle.board_core.proofs.Stepped.{St, by_log, still}
 use Rattle.board_core.proofs.Stored.{part_at}
+use Rattle.board_core.proofs.SweptFrame.{swept_here}
 use Rattle.board_core.proofs.ChainFrame.{chains_same}
 
 same_place : (base i j place : ℕ) → place ≡ base + i → place ≡ base + j → i ≡ j
@@ -44,6 +45,7 @@ load_log k p h vs id i v r at behind =
     (full_same k vs id v a r.full at refl refl)
     (empty_same k p.pool.states vs id v a r.empty at refl)
     (chains_same k p.pages p.pool.states vs id v a r.chains at refl refl)
+    (swept_here k p h vs id v a r at refl)
     (changed (λ x. Each (LoadFits k p.log) x.loads.shown) vs id v a at
     (each_snoc (LoadFits k p.log) v.me.loads.shown record { place = log_at k + i; word = p.log.slots i; front = v.me.log.seen }
     record { seen = seen; log = λ j inside place. let e = same_place (log_at k) i j (log_at k + i) refl place in (omega arith, ap p.log.slots (sym e)) }

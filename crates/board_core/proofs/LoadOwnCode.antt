@@ -1,5 +1,5 @@
 -- A code of an own row is loaded, and a row is begun.
-use Rattle.std.proofs.Common.{◌≡◌, ◌≢◌, length, ℕ, zero, suc, ◌+◌, ◌*◌, ◌-◌, ◌%◌, ◌^◌, ◌<◌, ◌≤◌, List, [], ◌∷◌, ◌++◌, set, get_or, sym, refl, ap, ◌∙◌, subst, arith, inl, ⊎_elim}
+use Rattle.std.proofs.Common.{◌≡◌, ◌≢◌, ℕ, zero, suc, ◌+◌, ◌*◌, ◌-◌, ◌%◌, ◌^◌, ◌<◌, ◌≤◌, List, [], ◌∷◌, ◌++◌, set, get_or, sym, refl, ap, ◌∙◌, subst, arith, inl, ⊎_elim}
 use mathlib.Core.Option.{some, none, some-ne-none}
 use lib.ListN.{get_elem?}
 use Rattle.atomic_table.specs.Table.{step, keeps, Allows}
@@ -12,7 +12,7 @@ use Rattle.board_core.specs.declared.loads.CodeLoad.{CodeLoad}
 use Rattle.board_core.specs.declared.room.Row.{Row}
 use Rattle.board_core.specs.Each.{Each, In}
 use Rattle.board_core.specs.Words.{Parts, parts_of, total_of}
-use Rattle.board_core.specs.Blocks.{atoms_in, atom_words_at, atom_of, block_size, molecule_in}
+use Rattle.board_core.specs.Blocks.{atoms_in, block_size}
 use Rattle.board_core.specs.Histories.{block_at, history_of}
 use Rattle.board_core.specs.Records.{code_word_at, IsRecord}
 use Rattle.board_core.specs.Accounts.{with_me, EachAccount}
@@ -27,9 +27,7 @@ use Rattle.board_core.specs.Holds.{Rule, Holds}
 use Rattle.board_core.specs.After.{after_code, after_begun}
 use Rattle.board_core.specs.Steps.{Mine, MayLoadOwn, LoadsOwnCode, BeginsRow, LoadsOwnHead}
 use Rattle.board_core.proofs.Lists.{each_snoc, inside, set_twice}
-use Rattle.htss_defs.specs.Codes.{code_at}
-use Rattle.board_core.proofs.CodeSome.{some_code}
-use Rattle.board_core.proofs.Shown.{length_first}
+use Rattle.board_core.proofs.CodeSome.{record_code}
 use Rattle.board_core.proofs.Everyone.{mine, changed}
 use Rattle.board_core.proofs.Some.{some_changed}
 use Rattle.board_core.proofs.BlockWords.{ShowSame}
@@ -186,13 +184,7 @@ module _ (k : Shape) (slots id place head code : ℕ) (q : Row) (m : Mine) (is :
       let words : ℕ → ℕ = words_of k m.0.me.who m.0.me.room.used q.block in
       let (j, t, there, block) = may.row_is.sealed in
       let record_is : IsRecord words = subst (λ (b : ℕ). IsRecord (own_block k (store_of m.0.me) b)) block (mine (λ x. Each (λ t. IsRecord (own_block k (store_of x) t.place)) x.room.sealed) s.views id m.0 at h.rule.records j t there) in
-      let above = may.row_is.above in
-      let most : q.atom ≤ atoms_in (words 0) = may.row_is.atom in
-      let same : q.atom - 1 + 1 ≡ q.atom = omega arith in
-      let code_is : code_of words q.atom code ≡ code_at (molecule_in words) code q.atom = record_is.codes (q.atom - 1) code (omega arith) may.code_is ∙ ap (code_at (molecule_in words) code) same in
-      let size : length (molecule_in words).atoms ≡ atoms_in (words 0) = length_first (λ i. atom_of (words (atom_words_at (words 0) + i))) (atoms_in (words 0)) in
-      some_code (molecule_in words) code q.atom record_is.molecule above (omega arith)
-      (sym code_is ∙ (sym (told_own s h at ∙ ap (λ (y : Shape). code_of (words_of y m.0.me.who m.0.me.room.used q.block) q.atom code) shape) ∙ z))
+      record_code words q.atom code record_is may.row_is.above may.row_is.atom may.code_is (sym (told_own s h at ∙ ap (λ (y : Shape). code_of (words_of y m.0.me.who m.0.me.room.used q.block) q.atom code) shape) ∙ z)
 
   pub own_code_allowed : Allows (Holds k) slots id m place (λ n. n) (LoadsOwnCode q code (step slots place 0 0 none) m)
   own_code_allowed s h _ at _ =

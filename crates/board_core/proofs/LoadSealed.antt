@@ -22,7 +22,7 @@ use Rattle.board_core.specs.SeatRule.{SeatRule, WhoFits}
 use Rattle.board_core.specs.LoadRule.{LoadFits, LoadRule}
 use Rattle.board_core.specs.RoomRule.{store_of, region_of, room_of, IsSealed, IsMark, RoomFits, RoomRule, SomeAccount}
 use Rattle.board_core.specs.FactRule.{IsWordOf, word_at, HeadStands, FactStands, CodeStands, MarkStands, BlocksStand, IsCodeOf, AreOfBlocks, FactRule}
-use Rattle.board_core.specs.Loaded.{KnowsBlock, KnowsHead, IsInTable}
+use Rattle.board_core.specs.Loaded.{KnowsBlock, KnowsHead, KnowsRow, IsInTable}
 use Rattle.board_core.specs.After.{after_head, after_mark, after_fact, after_code}
 use Rattle.board_core.proofs.Lists.{each_snoc}
 use Rattle.board_core.proofs.Everyone.{mine}
@@ -87,21 +87,30 @@ head_is k regions front vs id block head v r at known =
     let f = mine (λ x. BlocksStand k regions front x.loads) vs id v at r.stand in
     ap (λ z. block_at k regions z 0) (sym known.place) ∙ (f.heads known.index known.load known.loaded ∙ known.found)
 
+-- the block of a row of which a code was loaded is sealed
+pub coded_sealed : (k : Shape) (regions : ℕ → ℕ) (front : ℕ) (vs : List View) (id block : ℕ) (v : View) → FactRule k regions front vs → get_elem? vs id ≡ some v → KnowsRow v.me block → SomeAccount (λ x. IsSealed x.room.sealed block) vs
+coded_sealed k regions front vs id block v r at (atom, code, word, known) =
+    let of = mine (λ x. AreOfBlocks k regions vs x.loads) vs id v at r.of_blocks in
+    subst (λ (z : ℕ). SomeAccount (λ x. IsSealed x.room.sealed z) vs) known.row.0 (of.codes known.index known.load known.loaded).sealed
+
 -- ---- what is loaded of it
 
-pub facts_head : (k : Shape) (regions : ℕ → ℕ) (w : LogWords) (vs : List View) (id block : ℕ) (v : View) → FactRule k regions w.front vs → LoadRule k w vs → RoomRule k regions w.front w.slots vs → get_elem? vs id ≡ some v → KnowsBlock k v.me block
-    → FactRule k regions w.front (set vs id (with_me v (after_head v.me block (block_at k regions block 0))))
-facts_head k regions w vs id block v r loads rooms at known =
+abbrev pub AreSealed : List View → ℕ → Type 0
+AreSealed vs block = SomeAccount (λ x. IsSealed x.room.sealed block) vs
+
+pub facts_head : (k : Shape) (regions : ℕ → ℕ) (front : ℕ) (vs : List View) (id block : ℕ) (v : View) → FactRule k regions front vs → get_elem? vs id ≡ some v → AreSealed vs block
+    → FactRule k regions front (set vs id (with_me v (after_head v.me block (block_at k regions block 0))))
+facts_head k regions front vs id block v r at sealed =
     let new : WordLoad = record { place = block; word = block_at k regions block 0 } in
     let a : Account = after_head v.me block (block_at k regions block 0) in
     let ws : List View = set vs id (with_me v a) in
     let stay : Stay vs ws = stay_same vs id v a at refl in
-    let f = mine (λ x. BlocksStand k regions w.front x.loads) vs id v at r.stand in
+    let f = mine (λ x. BlocksStand k regions front x.loads) vs id v at r.stand in
     let of = of_blocks_stay k regions vs ws v.me.loads stay (mine (λ x. AreOfBlocks k regions vs x.loads) vs id v at r.of_blocks) in
-    facts_changed k regions w.front w.front vs id v a r at (omega arith) stay
+    facts_changed k regions front front vs id v a r at (omega arith) stay
     record { heads = each_snoc (HeadStands k regions) v.me.loads.heads new refl f.heads; facts = f.facts; codes = f.codes; marks = f.marks }
     record {
-      heads = each_snoc (λ x. SomeAccount (λ y. IsSealed y.room.sealed x.place) ws) v.me.loads.heads new (stay (λ s. s.place ≡ block) (known_sealed k regions w vs id block v loads rooms at known)) of.heads;
+      heads = each_snoc (λ x. SomeAccount (λ y. IsSealed y.room.sealed x.place) ws) v.me.loads.heads new (stay (λ s. s.place ≡ block) sealed) of.heads;
       facts = of.facts;
       codes = of.codes;
       marks = of.marks;
@@ -111,22 +120,22 @@ facts_head k regions w vs id block v r loads rooms at known =
 mark_of : (vs : List View) (block place : ℕ) → (place ≡ block + 1) ⊎ (place ≡ block + 2) → SomeAccount (λ x. IsSealed x.room.sealed block) vs → SomeAccount (λ x. IsMark x.room.sealed place) vs
 mark_of vs block place is (j, v, at, n, a, there, sealed) = let (b, s, in_list, same) = sealed in (j, v, at, n, a, there, (b, s, in_list, subst (λ z. (place ≡ z + 1) ⊎ (place ≡ z + 2)) (sym same) is))
 
-pub facts_mark : (k : Shape) (regions : ℕ → ℕ) (w : LogWords) (vs : List View) (id block place : ℕ) (v : View) → FactRule k regions w.front vs → LoadRule k w vs → RoomRule k regions w.front w.slots vs → get_elem? vs id ≡ some v → KnowsBlock k v.me block → v.me.log.seen ≤ w.front → (place ≡ block + 1) ⊎ (place ≡ block + 2)
-    → FactRule k regions w.front (set vs id (with_me v (after_mark v.me place (word_at k regions place))))
-facts_mark k regions w vs id block place v r loads rooms at known seen is =
+pub facts_mark : (k : Shape) (regions : ℕ → ℕ) (front : ℕ) (vs : List View) (id block place : ℕ) (v : View) → FactRule k regions front vs → get_elem? vs id ≡ some v → AreSealed vs block → v.me.log.seen ≤ front → (place ≡ block + 1) ⊎ (place ≡ block + 2)
+    → FactRule k regions front (set vs id (with_me v (after_mark v.me place (word_at k regions place))))
+facts_mark k regions front vs id block place v r at sealed seen is =
     let new : ShownLoad = record { place = place; word = word_at k regions place; front = v.me.log.seen } in
     let a : Account = after_mark v.me place (word_at k regions place) in
     let ws : List View = set vs id (with_me v a) in
     let stay : Stay vs ws = stay_same vs id v a at refl in
-    let f = mine (λ x. BlocksStand k regions w.front x.loads) vs id v at r.stand in
+    let f = mine (λ x. BlocksStand k regions front x.loads) vs id v at r.stand in
     let of = of_blocks_stay k regions vs ws v.me.loads stay (mine (λ x. AreOfBlocks k regions vs x.loads) vs id v at r.of_blocks) in
-    facts_changed k regions w.front w.front vs id v a r at (omega arith) stay
-    record { heads = f.heads; facts = f.facts; codes = f.codes; marks = each_snoc (MarkStands k regions w.front) v.me.loads.marks new record { seen = seen; told = λ _ _. refl; later = λ free. free } f.marks }
+    facts_changed k regions front front vs id v a r at (omega arith) stay
+    record { heads = f.heads; facts = f.facts; codes = f.codes; marks = each_snoc (MarkStands k regions front) v.me.loads.marks new record { seen = seen; told = λ _ _. refl; later = λ free. free } f.marks }
     record {
       heads = of.heads;
       facts = of.facts;
       codes = of.codes;
-      marks = each_snoc (λ x. SomeAccount (λ y. IsMark y.room.sealed x.place) ws) v.me.loads.marks new (mark_of ws block place is (stay (λ s. s.place ≡ block) (known_sealed k regions w vs id block v loads rooms at known))) of.marks;
+      marks = each_snoc (λ x. SomeAccount (λ y. IsMark y.room.sealed x.place) ws) v.me.loads.marks new (mark_of ws block place is (stay (λ s. s.place ≡ block) sealed)) of.marks;
     }
 
 pub facts_fact : (k : Shape) (regions : ℕ → ℕ) (w : LogWords) (vs : List View) (id block head i : ℕ) (v : View) → FactRule k regions w.front vs → LoadRule k w vs → RoomRule k regions w.front w.slots vs → get_elem? vs id ≡ some v → KnowsHead k v.me block head → i < block_size head → i ≢ 1 → i ≢ 2
@@ -149,19 +158,17 @@ facts_fact k regions w vs id block head i v r loads rooms at known within not_fi
       marks = of.marks;
     }
 
-pub facts_code : (k : Shape) (regions : ℕ → ℕ) (w : LogWords) (vs : List View) (id head code : ℕ) (row : Row) (v : View) → FactRule k regions w.front vs → LoadRule k w vs → RoomRule k regions w.front w.slots vs → get_elem? vs id ≡ some v → KnowsHead k v.me row.block head → 0 < row.atom → row.atom ≤ atoms_in head → code < 5
-    → FactRule k regions w.front (set vs id (with_me v (after_code v.me row code (block_at k regions row.block (code_word_at head (row.atom - 1) code)))))
-facts_code k regions w vs id head code row v r loads rooms at known above within few =
+pub facts_code : (k : Shape) (regions : ℕ → ℕ) (front : ℕ) (vs : List View) (id head code : ℕ) (row : Row) (v : View) → FactRule k regions front vs → get_elem? vs id ≡ some v → AreSealed vs row.block → block_at k regions row.block 0 ≡ head → 0 < row.atom → row.atom ≤ atoms_in head → code < 5
+    → FactRule k regions front (set vs id (with_me v (after_code v.me row code (block_at k regions row.block (code_word_at head (row.atom - 1) code)))))
+facts_code k regions front vs id head code row v r at sealed is above within few =
     let word : ℕ = block_at k regions row.block (code_word_at head (row.atom - 1) code) in
     let new : CodeLoad = record { row = row; code = code; word = word } in
     let a : Account = after_code v.me row code word in
     let ws : List View = set vs id (with_me v a) in
     let stay : Stay vs ws = stay_same vs id v a at refl in
-    let f = mine (λ x. BlocksStand k regions w.front x.loads) vs id v at r.stand in
+    let f = mine (λ x. BlocksStand k regions front x.loads) vs id v at r.stand in
     let of = of_blocks_stay k regions vs ws v.me.loads stay (mine (λ x. AreOfBlocks k regions vs x.loads) vs id v at r.of_blocks) in
-    let sealed = known_sealed k regions w vs id row.block v loads rooms at known.known in
-    let is = head_is k regions w.front vs id row.block head v r at known in
-    facts_changed k regions w.front w.front vs id v a r at (omega arith) stay
+    facts_changed k regions front front vs id v a r at (omega arith) stay
     record { heads = f.heads; facts = f.facts; codes = each_snoc (CodeStands k regions) v.me.loads.codes new (ap (λ h. block_at k regions row.block (code_word_at h (row.atom - 1) code)) is) f.codes; marks = f.marks }
     record {
       heads = of.heads;

@@ -8,6 +8,7 @@ use Rattle.board_core.specs.Each.{Each}
 use Rattle.board_core.specs.Words.{Parts, parts_of, total_of, log_at, pages_at}
 use Rattle.board_core.specs.Rows.{codes_in}
 use Rattle.board_core.specs.OldRows.{IsOldRow}
+use Rattle.board_core.specs.Swept.{IsSweptOn}
 use Rattle.board_core.proofs.RowFrame.{rows_open}
 use Rattle.board_core.proofs.TreeFrame.{tree_open}
 use Rattle.std.proofs.Common.{Bool, true, false, cond, nat_lt}
@@ -227,6 +228,7 @@ open_rule k p front lock slots pool tree some_chain = record {
   own = own_open p.pages k;
   pool = pool_open k p.pool pool;
   chains = only (λ x. Each (λ e. IsTrueChain k p.pages (sheet_of p.pool.states (opener k ∷ [])) e.entry) x.entries) k (account (Opener 0) 0) (each_none (λ e. IsTrueChain k p.pages (sheet_of p.pool.states (opener k ∷ [])) e.entry));
+  swept = only (λ x. Each (λ e. IsSweptOn k p (opener k ∷ []) e.entry) x.entries) k (account (Opener 0) 0) (each_none (λ e. IsSweptOn k p (opener k ∷ []) e.entry));
   empty = only (λ x. Each (λ e. IsTruePool k p.pool.states e.entry) x.entries) k (account (Opener 0) 0) (each_none (λ e. IsTruePool k p.pool.states e.entry));
   loads = only (λ x. Each (LoadFits k p.log) x.loads.shown) k (account (Opener 0) 0) (each_none (LoadFits k p.log));
 }

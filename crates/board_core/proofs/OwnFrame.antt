@@ -10,7 +10,7 @@ use Rattle.board_core.specs.declared.pool.Own.{Own}
 use Rattle.board_core.specs.Each.{Each}
 use Rattle.board_core.specs.Accounts.{account, opener, with_me, keeping, gone, view, accounts_in, caller_after}
 use Rattle.board_core.specs.OwnRule.{OwnFits, OwnRule}
-use Rattle.board_core.specs.After.{after_made, after_page, after_retire, without}
+use Rattle.board_core.specs.After.{after_made, after_page, without}
 use Rattle.board_core.proofs.Lists.{each_none, each_cons}
 use Rattle.board_core.proofs.Everyone.{mine, changed, each_more, each_left, each_gathered}
 
@@ -32,9 +32,6 @@ each_kept_or F x xs false first rest = each_cons F x xs first rest
 pub each_without : {A : Type 0} (F : A → Type 0) (page : A → ℕ) (p : ℕ) (xs : List A) → Each F xs → Each F (without page p xs)
 each_without F page p [] all = all
 each_without F page p (x ∷ xs) all = each_kept_or F x (without page p xs) (eqb p (page x)) (all zero x refl) (each_without F page p xs (λ j. all (suc j)))
-
-pub own_retired : (pages : ℕ → ℕ → ℕ) (vs : List View) (id p : ℕ) (v : View) → OwnRule pages vs → get_elem? vs id ≡ some v → OwnRule pages (set vs id (with_me v (after_retire v.me p)))
-own_retired pages vs id p v r at = changed (OwnFit pages) vs id v (after_retire v.me p) at (each_without (OwnFits pages) (λ o. o.page) p v.me.pool.own (mine (OwnFit pages) vs id v at r)) r
 
 -- ---- splits, joins and the opening
 

@@ -36,6 +36,8 @@ use Rattle.board_core.proofs.EmptyFrame.{empty_later}
 use Rattle.board_core.proofs.Stored.{part_at}
 use Rattle.board_core.proofs.Changed.{set_state}
 use Rattle.board_core.specs.declared.room.RoomAccount.{RoomAccount}
+use Rattle.board_core.proofs.TreeFrame.{rows_stay}
+use Rattle.board_core.proofs.SweptFrame.{swept_step, swept_here}
 use Rattle.board_core.proofs.ChainFrame.{chains_later, same_pages}
 use Rattle.board_core.specs.declared.log.LogAccount.{LogAccount}
 use Rattle.board_core.proofs.PublishedFrame.{published_same}
@@ -89,6 +91,7 @@ pub by_pool : (k : Shape) (p : Parts) (w : PoolWords) (h : List Event) (vs : Lis
 by_pool k p w h vs id v a r at rest busy pool own alike pinned linked tree = record {
   pins = pins_same p.log.front p.log.front vs id v a r.pins at (omega arith) pinned;
   chains = chains_later k p.pages p.pages (sheet_of p.pool.states vs) (sheet_of w.states (set vs id (with_me v a))) vs id v a r.chains at (same_pages p.pages (sheet_of p.pool.states vs) (sheet_of w.states (set vs id (with_me v a))) linked) rest.entries;
+  swept = swept_step k p (record p { pool = w }) h vs id v a r at (λ j u there i x here b s in_list t _ _ _. refl) (not_later p.log p.log refl refl) (rows_stay vs id v a at (λ x. x.tree.placed) alike.placed) (swept_here k p h vs id v a r at rest.entries);
   seats = seats_same k vs id v a r.seats at rest.who;
   log = log_same k p.log h vs id v a r.log at (λ i. record { who = rest.who i; log = rest.log i });
   stories = stories_same k h vs id v a r.stories at rest.who rest.entries;

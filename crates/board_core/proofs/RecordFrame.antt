@@ -19,14 +19,14 @@ use Rattle.board_core.specs.LogWord.{kind_in, target_in}
 use Rattle.board_core.specs.Blocks.{atoms_in, bonds_in, bytes_in, block_size, molecule_in}
 use Rattle.board_core.specs.Histories.{block_at}
 use Rattle.board_core.specs.Accounts.{account, view, opener, with_me, keeping, gone, accounts_in, caller_after, EachAccount}
-use Rattle.board_core.specs.Records.{IsRecord, code_word_at}
+use Rattle.board_core.specs.Records.{IsRecord, ShowsRecord, code_word_at}
 use Rattle.board_core.specs.RecordRule.{RecordRule}
 use Rattle.board_core.specs.RoomRule.{store_of, region_of, own_block, RoomFits, RoomRule}
 use Rattle.board_core.specs.After.{after_word, after_made, after_hear}
 use Rattle.board_core.specs.Steps.{MaySeal}
 use Rattle.board_core.proofs.Lists.{each_none, each_cons, each_append}
 use Rattle.board_core.proofs.Everyone.{mine, changed, each_more, each_left, each_gathered}
-use Rattle.board_core.proofs.BlockWords.{ShowSame, same_name, same_molecule}
+use Rattle.board_core.proofs.BlockWords.{ShowSame, ShowAlike, same_name, same_molecule, alike_name, alike_molecule}
 use Rattle.board_core.proofs.RoomFrame.{size_least, block_stands}
 
 -- ---- blocks that show the same
@@ -40,6 +40,17 @@ code_within head atom code below few = within ((bytes_in head + 7) / 8) (atoms_i
 
 pub same_code : (f g : ℕ → ℕ) (atom code : ℕ) → ShowSame f g → atom < atoms_in (f 0) → code < 5 → g (code_word_at (g 0) atom code) ≡ f (code_word_at (f 0) atom code)
 same_code f g atom code same below few = let place = code_within (f 0) atom code below few in ap (λ h. g (code_word_at h atom code)) same.head ∙ same.words (code_word_at (f 0) atom code) place.0 place.1
+
+-- what is read of a block that shows a record, and of one that differs in its codes alone
+pub shows_record : (f : ℕ → ℕ) → IsRecord f → ShowsRecord f
+shows_record f r = record { name = r.name; molecule = r.molecule; marked = r.marked }
+
+pub shows_alike : (f g : ℕ → ℕ) → ShowAlike f g → ShowsRecord f → ShowsRecord g
+shows_alike f g same r = record {
+  name = subst IsName (sym (alike_name f g same)) r.name;
+  molecule = subst IsMolecule (sym (alike_molecule f g same)) r.molecule;
+  marked = subst IsMarked (sym (alike_molecule f g same)) r.marked;
+}
 
 pub record_same : (f g : ℕ → ℕ) → ShowSame f g → IsRecord f → IsRecord g
 record_same f g same r =

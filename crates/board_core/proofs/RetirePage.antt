@@ -1,5 +1,5 @@
--- A page is retired: an unlinked one with the stamp that was loaded for it, or an own one with an epoch that was loaded.
-use Rattle.std.proofs.Common.{◌≡◌, ◌≢◌, ℕ, ◌+◌, ◌-◌, ◌<◌, ◌≤◌, List, set, sym, refl, ap, ◌∙◌, subst, arith, inl, ⊎_elim}
+-- An unlinked page is retired with the stamp that was loaded for it.
+use Rattle.std.proofs.Common.{◌≡◌, ◌≢◌, ℕ, ◌+◌, ◌-◌, ◌<◌, ◌≤◌, List, set, sym, refl, ap, ◌∙◌, subst, arith, inl}
 use mathlib.Core.Option.{some, none}
 use mathlib.Core.Logic.{dite}
 use native.Mathlib.Decide.{ℕ_discrete}
@@ -18,16 +18,15 @@ use Rattle.board_core.specs.Sheets.{Sheet, sheet_of, stamp_of, owns, parts, stam
 use Rattle.board_core.specs.PageRule.{PageFits}
 use Rattle.board_core.specs.HeldRule.{HeldFits}
 use Rattle.board_core.specs.PoolRule.{PoolRule}
-use Rattle.board_core.specs.Loaded.{HasEpoch, HasParted, HasOwn}
 use Rattle.board_core.specs.Holds.{Rule, Holds}
 use Rattle.board_core.specs.After.{after_retire}
 use Rattle.board_core.specs.Steps.{Mine, MayRetire, Retires}
 use Rattle.board_core.proofs.Everyone.{at_most, total_same, total_changed}
 use Rattle.board_core.proofs.PageSums.{no_stamp, no_stamps, only_total, without_here, without_else}
-use Rattle.board_core.proofs.PoolFrame.{Keeps, KeepsHeld, each_gives, pool_claimed, claim_here}
+use Rattle.board_core.proofs.PoolFrame.{Keeps, KeepsHeld, each_gives, pool_claimed}
 use Rattle.board_core.proofs.Stepped.{words_moved}
 use Rattle.board_core.proofs.Stored.{stored_here, stored_else}
-use Rattle.board_core.proofs.OwnFrame.{own_retired}
+use Rattle.board_core.proofs.OwnFrame.{own_same}
 use Rattle.board_core.proofs.Pooled.{tree_stays, by_pool, put_state}
 use Rattle.board_core.proofs.TakePage.{page_same, page_kept, never_free, states_kept}
 use Rattle.board_core.specs.Sheets.{IsLinked}
@@ -38,14 +37,14 @@ use Rattle.board_core.proofs.OldMoved.{pin_here}
 
 -- ---- whose the page is
 
--- one account's alone, with this stamp if it is unlinked, and the stamp is of an epoch that has come
+-- this account's alone, unlinked with this stamp, which is of an epoch that has come
 pub record IsOnes (epoch : ℕ) (s : Sheet) (a : Account) (p n : ℕ) : Type 0 where
   pub above : 0 < n
   pub past : n ≤ epoch
-  pub owned : s.owned p ≡ owns p a.pool.own
+  pub owned : s.owned p ≡ 0
   pub parted : s.parted p ≡ parts p a.pool.parted
-  pub one : s.owned p + s.parted p ≡ 1
-  pub stamp : 0 < s.parted p → s.stamped p ≡ n
+  pub one : s.parted p ≡ 1
+  pub stamp : s.stamped p ≡ n
 
 ones : (k : Shape) (w : PoolWords) (vs : List View) (id p n : ℕ) (v : View) → PoolRule k w vs → get_elem? vs id ≡ some v → MayRetire k v.me p n → IsOnes w.epoch (sheet_of w.states vs) v.me p n
 ones k w vs id p n v r at may =
@@ -53,17 +52,11 @@ ones k w vs id p n v r at may =
     let fits = r.pages p in
     let once : s.owned p + s.parted p ≤ 1 = fits.once in
     let part : parts p v.me.pool.parted ≤ s.parted p = at_most (λ x. parts p x.pool.parted) vs id v at in
-    let mine_p : owns p v.me.pool.own ≤ s.owned p = at_most (λ x. owns p x.pool.own) vs id v at in
-    ⊎_elim
-    (λ (u : HasParted v.me p n). let above = u.0 in let some_here = u.1 in let stamp = u.2 in
+    let (above, some_here, stamp) = may.parted in
     let all : s.stamped p ≡ stamps p v.me.pool.parted = only_total (λ y. parts p y.pool.parted) (λ y. stamps p y.pool.parted) (λ y. no_stamp p y.pool.parted) refl vs id v at (omega arith) in
     let total_n : s.stamped p ≡ n = all ∙ stamp in
     let past : stamp_of s p ≤ w.epoch = fits.past in
-    record { above = above; past = omega arith; owned = omega arith; parted = omega arith; one = omega arith; stamp = λ _. total_n })
-    (λ (u : HasOwn v.me p × HasEpoch v.me n). let some_here = u.0 in
-    let epoch = (claim_here k w vs id v r at).epochs u.1.0 n u.1.1 in
-    record { above = epoch.0; past = epoch.1; owned = omega arith; parted = omega arith; one = omega arith; stamp = λ h. absurd (omega arith) })
-    may.kind
+    record { above = above; past = omega arith; owned = omega arith; parted = omega arith; one = omega arith; stamp = total_n }
 
 -- ---- the law
 
@@ -78,25 +71,22 @@ retire_pool k w vs id p n v r at may =
     let is = ones k w vs id p n v r at may in
     let above = is.above in
     let past = is.past in
-    let owned_set : t.owned p + owns p a.pool.own ≡ s.owned p + owns p b.pool.own = total_changed (λ x. owns p x.pool.own) vs id v b at in
     let parted_set : t.parted p + parts p a.pool.parted ≡ s.parted p + parts p b.pool.parted = total_changed (λ x. parts p x.pool.parted) vs id v b at in
-    let own_gone : owns p b.pool.own ≡ 0 = without_here (λ o. o.page) p a.pool.own in
     let part_gone : parts p b.pool.parted ≡ 0 = without_here (λ u. u.page) p a.pool.parted in
-    let all_own = is.owned in
     let all_parted = is.parted in
-    let owned_gone : t.owned p ≡ 0 = omega arith in
+    let owned_gone : t.owned p ≡ 0 = total_same (λ x. owns p x.pool.own) vs id v b at refl ∙ is.owned in
     let parted_gone : t.parted p ≡ 0 = omega arith in
     let stamped_gone : t.stamped p ≡ 0 = no_stamps (set vs id (with_me v b)) p parted_gone in
     let state : g p ≡ n + 1 = stored_here w.states p (n + 1) in
-    let owned_same : (q : ℕ) → q ≢ p → t.owned q ≡ s.owned q = λ q m. total_same (λ x. owns q x.pool.own) vs id v b at (without_else (λ o. o.page) (λ _. 1) p q (λ z. m (sym z)) a.pool.own) in
+    let owned_same : (q : ℕ) → q ≢ p → t.owned q ≡ s.owned q = λ q m. total_same (λ x. owns q x.pool.own) vs id v b at refl in
     let parted_same : (q : ℕ) → q ≢ p → t.parted q ≡ s.parted q = λ q m. total_same (λ x. parts q x.pool.parted) vs id v b at (without_else (λ u. u.page) (λ _. 1) p q (λ z. m (sym z)) a.pool.parted) in
     let stamped_same : (q : ℕ) → q ≢ p → t.stamped q ≡ s.stamped q = λ q m. total_same (λ x. stamps q x.pool.parted) vs id v b at (without_else (λ u. u.page) (λ u. u.stamp) p q (λ z. m (sym z)) a.pool.parted) in
     let page : PageFits w.epoch t p = record { once = omega arith; busy = λ h. absurd (omega arith); past = omega arith } in
     -- a page that is held is nobody's own, so it is unlinked and has its stamp
     let kept : (m : ℕ) → HeldFits s m p → Keeps s t w.epoch p = λ m fits.
     let none : s.owned p ≡ 0 = fits.owned in
-    let sum : s.owned p + s.parted p ≡ 1 = is.one in
-    let before : s.stamped p ≡ n = is.stamp (omega arith) in
+    let sum : s.parted p ≡ 1 = is.one in
+    let before : s.stamped p ≡ n = is.stamp in
     let one : w.states p ≡ 1 = (r.pages p).busy (omega arith) in
     record { busy = omega arith; owned = owned_gone; later = inl (omega arith) } in
     pool_claimed k w vs id v r at g b refl refl
@@ -118,14 +108,14 @@ retire_linked k w vs id q n v r at may x l =
     let b : Account = after_retire a q in
     let s : Sheet = sheet_of w.states vs in
     let is = ones k w vs id q n v r at may in
-    let other : x ≢ q = λ y. let lq : IsLinked s q = subst (λ (z : ℕ). IsLinked s z) y l in let none = lq.owned in let none2 = lq.parted in let one : s.owned q + s.parted q ≡ 1 = is.one in omega arith in
+    let other : x ≢ q = λ y. let lq : IsLinked s q = subst (λ (z : ℕ). IsLinked s z) y l in let none : s.parted q ≡ 0 = lq.parted in let one : s.parted q ≡ 1 = is.one in omega arith in
     record {
       busy = stored_else w.states q (n + 1) x other ∙ l.busy;
-      owned = total_same (λ y. owns x y.pool.own) vs id v b at (without_else (λ o. o.page) (λ _. 1) q x (λ z. other (sym z)) a.pool.own) ∙ l.owned;
+      owned = total_same (λ y. owns x y.pool.own) vs id v b at refl ∙ l.owned;
       parted = total_same (λ y. parts x y.pool.parted) vs id v b at (without_else (λ u. u.page) (λ _. 1) q x (λ z. other (sym z)) a.pool.parted) ∙ l.parted;
     }
 
--- the same pages are linked: the page was somebody's, and has a stamp now
+-- the same pages are linked: the page was unlinked, and has a stamp now
 retire_tree : (k : Shape) (p : Parts) (h : List Event) (vs : List View) (id q n : ℕ) (v : View) → Rule k p h vs → get_elem? vs id ≡ some v → MayRetire k v.me q n
     → TreeRule k (stored p.pool.states q (n + 1)) p.pages (codes_in k p.regions) (IsOldRow k p.regions p.log.slots) (set vs id (with_me v (after_retire v.me q)))
 retire_tree k p h vs id q n v r at may =
@@ -136,7 +126,7 @@ retire_tree k p h vs id q n v r at may =
     let t : Sheet = sheet_of g (set vs id (with_me v b)) in
     let is = ones k p.pool vs id q n v r.pool at may in
     let above = is.above in
-    let owned_same : (x : ℕ) → x ≢ q → t.owned x ≡ s.owned x = λ x m. total_same (λ y. owns x y.pool.own) vs id v b at (without_else (λ o. o.page) (λ _. 1) q x (λ z. m (sym z)) a.pool.own) in
+    let owned_same : (x : ℕ) → x ≢ q → t.owned x ≡ s.owned x = λ x m. total_same (λ y. owns x y.pool.own) vs id v b at refl in
     let parted_same : (x : ℕ) → x ≢ q → t.parted x ≡ s.parted x = λ x m. total_same (λ y. parts x y.pool.parted) vs id v b at (without_else (λ u. u.page) (λ _. 1) q x (λ z. m (sym z)) a.pool.parted) in
     tree_stays k p h g vs id v b r at refl
     (retire_linked k p.pool vs id q n v r.pool at may)
@@ -149,7 +139,7 @@ retire_page k p h vs id q n v r at may = by_pool k p (record p.pool { states = s
     record { who = refl; log = refl; room = refl; entries = refl; shown = refl; heads = refl; facts = refl; codes = refl; marks = refl }
     (never_free p.pool.states q (n + 1) (omega arith))
     (retire_pool k p.pool vs id q n v r.pool at may)
-    (own_retired p.pages vs id q v r.own at)
+    (own_same p.pages vs id v (after_retire v.me q) r.own at refl)
     record { begun = refl; placed = refl }
     (pin_here p.log.front vs id v r.pins at)
     (retire_linked k p.pool vs id q n v r.pool at may)

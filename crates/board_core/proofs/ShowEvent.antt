@@ -52,6 +52,7 @@ use Rattle.board_core.proofs.Events.{event_last, legal_more, by_other, by_this}
 use Rattle.board_core.proofs.Shown.{history_grown, caller_shown, may_follow}
 use Rattle.board_core.proofs.RowFrame.{rows_same}
 use Rattle.board_core.specs.Sheets.{sheet_of}
+use Rattle.board_core.proofs.SweptFrame.{swept_more, event_swept}
 use Rattle.board_core.proofs.ChainFrame.{chains_more, event_chain}
 use Rattle.board_core.proofs.PublishedFrame.{published_event}
 
@@ -198,6 +199,7 @@ show_event k p vs id word v e r at may is =
     (full_more k vs id v (after_event v.me e) (entry_of (v.me.log.seen + 1) e ∷ []) r.full at (event_room (k.room - length v.me.room.used) (v.me.log.seen + 1) e) (published_used v.me.log.pending.shows v.me.room) refl)
     (empty_more k p.pool.states vs id v (after_event v.me e) (entry_of (v.me.log.seen + 1) e ∷ []) r.empty at (event_pool k p.pool.states (v.me.log.seen + 1) e) refl)
     (chains_more k p.pages p.pool.states vs id v (after_event v.me e) (entry_of (v.me.log.seen + 1) e ∷ []) r.chains at refl (event_chain k p.pages (sheet_of p.pool.states vs) (v.me.log.seen + 1) e) refl)
+    (swept_more k p h vs id v (after_event v.me e) (entry_of (v.me.log.seen + 1) e ∷ []) r at (event_swept k p vs (v.me.log.seen + 1) e) refl)
     (loads_same k p.log u vs id v (after_event v.me e) r.loads at record { front = omega arith; slots = λ i _. refl } refl)
     (shown_rooms k p.regions p.log.front p.log.slots vs id word v e r.rooms at may.logged next.there (own.0 ∙ ap (λ z. Loader z) (sym next.own)))
     (shown_marks k p vs id word v e r.marks r.seats r.log r.rooms at may)

@@ -24,6 +24,9 @@ use Rattle.board_core.specs.Truths.{IsTrueLog, IsTrueStory, own_events}
 use Rattle.board_core.specs.StoryRule.{StoryRule}
 use Rattle.board_core.specs.LoadRule.{LoadFits}
 use Rattle.board_core.specs.RoomRule.{Store, store_of, RoomFits, ShowsSealed, RoomRule}
+use Rattle.board_core.specs.Swept.{IsSweptOn}
+use Rattle.board_core.specs.Rows.{HasRow}
+use Rattle.board_core.proofs.SweptFrame.{OwnSwept, swept_views}
 use Rattle.board_core.proofs.RoomFrame.{none_fits}
 use Rattle.board_core.proofs.Some.{some_changed, some_more}
 use Rattle.board_core.specs.Truths.{IsTrueRoom}
@@ -168,6 +171,8 @@ caller k p h vs id m v r at is shape room = record {
   tree = tree_caller k p.pool.states p.pages (codes_in k p.regions) (IsOldRow k p.regions p.log.slots) vs id m v (no_old k p.regions p.log.slots) (λ n. placed_begun k vs n r.rows) at (sheet_caller p.pool.states k vs id m v at) r.tree;
   chains = subst (λ (x : Sheet). ChainRule k p.pages x (set vs id (left_of v) ++ right_of k m ∷ [])) (sym (sheet_caller p.pool.states k vs id m v at)) (each_more (λ x. Each (λ e. IsTrueChain k p.pages (sheet_of p.pool.states vs) e.entry) x.entries) (set vs id (left_of v)) (account (caller_after k m) 0) (right_of k m) refl refl (each_none (λ e. IsTrueChain k p.pages (sheet_of p.pool.states vs) e.entry))
       (changed (λ x. Each (λ e. IsTrueChain k p.pages (sheet_of p.pool.states vs) e.entry) x.entries) vs id v (after_made v.me) at (mine (λ x. Each (λ e. IsTrueChain k p.pages (sheet_of p.pool.states vs) e.entry) x.entries) vs id v at r.chains) r.chains));
+  swept = swept_views k p vs (set vs id (left_of v) ++ right_of k m ∷ []) (set vs id (left_of v) ++ right_of k m ∷ []) (λ n t. some_more (λ x. HasRow n x.tree.placed) (set vs id (left_of v)) (right_of k m) (some_changed (λ x. HasRow n x.tree.placed) vs id v (after_made v.me) at (λ y. y) t))
+      (each_more (OwnSwept k p vs) (set vs id (left_of v)) (account (caller_after k m) 0) (right_of k m) refl refl (each_none (λ e. IsSweptOn k p vs e.entry)) (changed (OwnSwept k p vs) vs id v (after_made v.me) at (mine (OwnSwept k p vs) vs id v at r.swept) r.swept));
   empty = each_more (λ x. Each (λ e. IsTruePool k p.pool.states e.entry) x.entries) (set vs id (left_of v)) (account (caller_after k m) 0) (right_of k m) refl refl (each_none (λ e. IsTruePool k p.pool.states e.entry))
       (changed (λ x. Each (λ e. IsTruePool k p.pool.states e.entry) x.entries) vs id v (after_made v.me) at (mine (λ x. Each (λ e. IsTruePool k p.pool.states e.entry) x.entries) vs id v at r.empty) r.empty);
 }

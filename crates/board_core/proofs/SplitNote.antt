@@ -20,6 +20,9 @@ use Rattle.board_core.specs.Truths.{IsTrueLog, IsTrueStory}
 use Rattle.board_core.specs.StoryRule.{StoryRule}
 use Rattle.board_core.specs.LoadRule.{LoadFits}
 use Rattle.board_core.specs.RoomRule.{store_of, RoomFits, ShowsSealed}
+use Rattle.board_core.specs.Swept.{IsSweptOn}
+use Rattle.board_core.specs.Rows.{HasRow}
+use Rattle.board_core.proofs.SweptFrame.{OwnSwept, swept_views}
 use Rattle.board_core.proofs.RoomFrame.{none_fits}
 use Rattle.board_core.proofs.Some.{some_more}
 use Rattle.board_core.specs.Truths.{IsTrueRoom}
@@ -105,6 +108,7 @@ note k p h vs id v r at here =
       published = published_note k vs v.shape front r.published;
       tree = tree_note k p.pool.states p.pages (codes_in k p.regions) (IsOldRow k p.regions p.log.slots) vs v.shape front (no_old k p.regions p.log.slots) (λ n. placed_begun k vs n r.rows) (sheet_note p.pool.states vs v.shape front) r.tree;
       chains = subst (λ (x : Sheet). ChainRule k p.pages x (vs ++ n ∷ [])) (sym (sheet_note p.pool.states vs v.shape front)) (each_more (λ x. Each (λ e. IsTrueChain k p.pages (sheet_of p.pool.states vs) e.entry) x.entries) vs (account Note front) n refl refl (each_none (λ e. IsTrueChain k p.pages (sheet_of p.pool.states vs) e.entry)) r.chains);
+      swept = swept_views k p vs (vs ++ n ∷ []) (vs ++ n ∷ []) (λ m t. some_more (λ x. HasRow m x.tree.placed) vs n t) (each_more (OwnSwept k p vs) vs (account Note front) n refl refl (each_none (λ e. IsSweptOn k p vs e.entry)) r.swept);
       empty = each_more (λ x. Each (λ e. IsTruePool k p.pool.states e.entry) x.entries) vs (account Note front) n refl refl (each_none (λ e. IsTruePool k p.pool.states e.entry)) r.empty;
     }
 

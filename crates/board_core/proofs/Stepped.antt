@@ -23,7 +23,8 @@ use Rattle.board_core.specs.OldRows.{IsOldRow}
 use Rattle.board_core.specs.TreeRule.{TreeRule}
 use Rattle.board_core.proofs.PoolFrame.{sheet_same}
 use Rattle.board_core.proofs.RowFrame.{rows_same, codes_stay, placed_begun}
-use Rattle.board_core.proofs.TreeFrame.{linked_same, lift_same, keeps_same, tree_lifted}
+use Rattle.board_core.proofs.SweptFrame.{OwnSwept, swept_step}
+use Rattle.board_core.proofs.TreeFrame.{rows_stay, linked_same, lift_same, keeps_same, tree_lifted}
 use Rattle.board_core.specs.PoolRule.{PoolRule}
 use Rattle.board_core.specs.Held.{held_in}
 use Rattle.board_core.specs.declared.tree.TreeAccount.{TreeAccount}
@@ -80,9 +81,9 @@ pub record LeavesRegions (p q : Parts) (a b : Account) : Type 0 where
 
 -- a step of the log that changes the regions or what is known of them. Parts of the pool, the tree and the counts are framed here
 pub by_region : (k : Shape) (p q : Parts) (h g : List Event) (vs : List View) (id : ℕ) (v : View) (a : Account) → Rule k p h vs → get_elem? vs id ≡ some v → LeavesRest p q v.me a
-    → LogRule k q.log g (set vs id (with_me v a)) → StoryRule k g (set vs id (with_me v a)) → FullRule k (set vs id (with_me v a)) → EmptyRule k q.pool.states (set vs id (with_me v a)) → ChainRule k q.pages (sheet_of q.pool.states (set vs id (with_me v a))) (set vs id (with_me v a)) → LoadRule k q.log (set vs id (with_me v a)) → RoomRule k q.regions q.log.front q.log.slots (set vs id (with_me v a))
+    → LogRule k q.log g (set vs id (with_me v a)) → StoryRule k g (set vs id (with_me v a)) → FullRule k (set vs id (with_me v a)) → EmptyRule k q.pool.states (set vs id (with_me v a)) → ChainRule k q.pages (sheet_of q.pool.states (set vs id (with_me v a))) (set vs id (with_me v a)) → OwnSwept k p vs a → LoadRule k q.log (set vs id (with_me v a)) → RoomRule k q.regions q.log.front q.log.slots (set vs id (with_me v a))
     → MarkRule k q.regions q.log.front q.log.slots (set vs id (with_me v a)) → RecordRule k (set vs id (with_me v a)) → FactRule k q.regions q.log.front (set vs id (with_me v a)) → RowRule k (set vs id (with_me v a)) → PublishedRule k (set vs id (with_me v a)) → SameSealed k p.regions q.regions vs → IsLater p.log q.log → Rule k q g (set vs id (with_me v a))
-by_region k p q h g vs id v a r at rest log stories full empty chains loads rooms marks records facts rows published same later = record {
+by_region k p q h g vs id v a r at rest log stories full empty chains swept loads rooms marks records facts rows published same later = record {
   seats = seats_same k vs id v a r.seats at rest.who;
   log = log;
   stories = stories;
@@ -100,6 +101,7 @@ by_region k p q h g vs id v a r at rest log stories full empty chains loads room
   published = published;
   pins = pins_same p.log.front q.log.front vs id v a r.pins at later.front (subst (λ (t : TreeAccount). t.front ≤ p.log.front) (sym rest.tree) (pin_here p.log.front vs id v r.pins at));
   chains = chains;
+  swept = swept_step k p q h vs id v a r at same later (rows_stay vs id v a at (λ x. x.tree.placed) (ap (λ (t : TreeAccount). t.placed) rest.tree)) swept;
   tree = subst (λ (x : (ℕ → ℕ) × (ℕ → ℕ → ℕ)). TreeRule k x.0 x.1 (codes_in k q.regions) (IsOldRow k q.regions q.log.slots) (set vs id (with_me v a))) (λ i. ((sym rest.pool_words i).states, sym rest.page_words i))
       (let sheet : sheet_of p.pool.states (set vs id (with_me v a)) ≡ sheet_of p.pool.states vs = sheet_same p.pool.states vs id v a at (λ n. ap (λ (x : PoolAccount). owns n x.own) rest.pool) (ap (λ (x : PoolAccount). x.parted) rest.pool) in
       tree_lifted k p.pool.states p.pool.states p.pages (codes_in k p.regions) (codes_in k q.regions) (IsOldRow k p.regions p.log.slots) (IsOldRow k q.regions q.log.slots) vs (set vs id (with_me v a))
@@ -115,10 +117,10 @@ chains_here k p h vs id v es r at told = chains_true p.pages (sheet_of p.pool.st
 
 -- a step of the log alone. Parts of the regions are framed here, but what was loaded of blocks
 pub by_load : (k : Shape) (p q : Parts) (h g : List Event) (vs : List View) (id : ℕ) (v : View) (a : Account) → Rule k p h vs → get_elem? vs id ≡ some v → LeavesRest p q v.me a → LeavesRegions p q v.me a
-    → LogRule k q.log g (set vs id (with_me v a)) → StoryRule k g (set vs id (with_me v a)) → FullRule k (set vs id (with_me v a)) → EmptyRule k q.pool.states (set vs id (with_me v a)) → ChainRule k q.pages (sheet_of q.pool.states (set vs id (with_me v a))) (set vs id (with_me v a)) → LoadRule k q.log (set vs id (with_me v a)) → FactRule k q.regions q.log.front (set vs id (with_me v a)) → Rule k q g (set vs id (with_me v a))
-by_load k p q h g vs id v a r at rest regions log stories full empty chains loads facts =
+    → LogRule k q.log g (set vs id (with_me v a)) → StoryRule k g (set vs id (with_me v a)) → FullRule k (set vs id (with_me v a)) → EmptyRule k q.pool.states (set vs id (with_me v a)) → ChainRule k q.pages (sheet_of q.pool.states (set vs id (with_me v a))) (set vs id (with_me v a)) → OwnSwept k p vs a → LoadRule k q.log (set vs id (with_me v a)) → FactRule k q.regions q.log.front (set vs id (with_me v a)) → Rule k q g (set vs id (with_me v a))
+by_load k p q h g vs id v a r at rest regions log stories full empty chains swept loads facts =
     let move : (F : (ℕ → ℕ) → ℕ → (ℕ → ℕ) → Type 0) → F p.regions p.log.front p.log.slots → F q.regions q.log.front q.log.slots = λ F t. subst (λ (x : (ℕ → ℕ) × ℕ × (ℕ → ℕ)). F x.0 x.1 x.2) (λ i. (sym regions.words i, sym regions.front i, sym regions.slots i)) t in
-    by_region k p q h g vs id v a r at rest log stories full empty chains loads
+    by_region k p q h g vs id v a r at rest log stories full empty chains swept loads
     (move (λ x y z. RoomRule k x y z (set vs id (with_me v a))) (rooms_same k p.regions p.log.front p.log.slots vs id v a r.rooms at regions.store))
     (move (λ x y z. MarkRule k x y z (set vs id (with_me v a))) (marks_same k p.regions p.log.front p.log.slots vs id v a r.marks at regions.store))
     (records_same k vs id v a r.records at rest.who (ap (λ (x : Store). x.room.used) regions.store) (ap (λ (x : Store). x.room.sealed) regions.store))
@@ -130,8 +132,8 @@ by_load k p q h g vs id v a r at rest regions log stories full empty chains load
 
 -- a step of the log that loads nothing of blocks
 pub by_log : (k : Shape) (p q : Parts) (h g : List Event) (vs : List View) (id : ℕ) (v : View) (a : Account) → Rule k p h vs → get_elem? vs id ≡ some v → LeavesRest p q v.me a → LeavesRegions p q v.me a → SameLoads a.loads v.me.loads
-    → LogRule k q.log g (set vs id (with_me v a)) → StoryRule k g (set vs id (with_me v a)) → FullRule k (set vs id (with_me v a)) → EmptyRule k q.pool.states (set vs id (with_me v a)) → ChainRule k q.pages (sheet_of q.pool.states (set vs id (with_me v a))) (set vs id (with_me v a)) → LoadRule k q.log (set vs id (with_me v a)) → Rule k q g (set vs id (with_me v a))
-by_log k p q h g vs id v a r at rest regions alike log stories full empty chains loads = by_load k p q h g vs id v a r at rest regions log stories full empty chains loads
+    → LogRule k q.log g (set vs id (with_me v a)) → StoryRule k g (set vs id (with_me v a)) → FullRule k (set vs id (with_me v a)) → EmptyRule k q.pool.states (set vs id (with_me v a)) → ChainRule k q.pages (sheet_of q.pool.states (set vs id (with_me v a))) (set vs id (with_me v a)) → OwnSwept k p vs a → LoadRule k q.log (set vs id (with_me v a)) → Rule k q g (set vs id (with_me v a))
+by_log k p q h g vs id v a r at rest regions alike log stories full empty chains swept loads = by_load k p q h g vs id v a r at rest regions log stories full empty chains swept loads
     (subst (λ (x : (ℕ → ℕ) × ℕ). FactRule k x.0 x.1 (set vs id (with_me v a))) (λ i. (sym regions.words i, sym regions.front i))
     (facts_same k p.regions p.log.front p.log.front vs id v a r.facts at (ap (λ (x : Store). x.room.sealed) regions.store) alike (omega arith)))
 

@@ -35,6 +35,7 @@ use Rattle.board_core.proofs.Changed.{set_slot}
 use Rattle.board_core.proofs.Fields.{target_back, loader_back, kind_back}
 use Rattle.board_core.proofs.Shown.{history_same}
 use Rattle.board_core.proofs.RowFrame.{rows_same}
+use Rattle.board_core.proofs.SweptFrame.{swept_here}
 use Rattle.board_core.proofs.ChainFrame.{chains_same}
 use Rattle.board_core.proofs.PublishedFrame.{published_same}
 
@@ -131,6 +132,7 @@ store_event k p h vs id loader word v r at may =
     (full_same k vs id v (after_logged v.me word) r.full at refl refl)
     (empty_same k p.pool.states vs id v (after_logged v.me word) r.empty at refl)
     (chains_same k p.pages p.pool.states vs id v (after_logged v.me word) r.chains at refl refl)
+    (swept_here k p h vs id v (after_logged v.me word) r at refl)
     (loads_same k p.log u vs id v (after_logged v.me word) r.loads at record { front = omega arith; slots = λ i behind. stored_else p.log.slots p.log.front word i (λ e. omega arith) } refl)
     (event_rooms k p.regions p.log.front p.log.slots vs id word v r.rooms at (pending_sealed k p.regions v.me loader word may.small (mine (λ x. RoomFits k p.regions (store_of x)) vs id v at r.rooms.rooms) may.kind))
     (event_marks k p.regions p.log.front p.log.slots vs id loader word v r.marks at may)

@@ -40,6 +40,7 @@ use Rattle.board_core.proofs.Stepped.{by_region, words_moved}
 use Rattle.board_core.proofs.Changed.{set_region}
 use Rattle.board_core.specs.RoomRule.{SameSealed}
 use Rattle.board_core.proofs.RowFrame.{rows_same}
+use Rattle.board_core.proofs.SweptFrame.{swept_here}
 use Rattle.board_core.proofs.ChainFrame.{chains_same}
 use Rattle.board_core.proofs.PublishedFrame.{published_same, published_shows}
 
@@ -147,6 +148,7 @@ shows k p vs id block i n v r at may place number =
     (full_same k vs id v a r.full at refl refl)
     (empty_same k p.pool.states vs id v a r.empty at refl)
     (chains_same k p.pages p.pool.states vs id v a r.chains at refl refl)
+    (swept_here k p h vs id v a r at refl)
     (loads_same k p.log p.log vs id v a r.loads at (not_later p.log p.log refl refl) refl)
     (shows_rooms k q.regions p.log.front p.log.slots vs id block v new.rooms at sealed)
     (shows_marks k p vs id block i n v r.marks r.seats r.log r.rooms at may place number)
@@ -177,6 +179,7 @@ ends k p vs id i n v e r at may place number =
     (full_same k vs id v a r.full at refl refl)
     (empty_same k p.pool.states vs id v a r.empty at refl)
     (chains_same k p.pages p.pool.states vs id v a r.chains at refl refl)
+    (swept_here k p h vs id v a r at refl)
     (loads_same k p.log p.log vs id v a r.loads at (not_later p.log p.log refl refl) refl)
     (ends_rooms k q.regions p.log.front p.log.slots vs id v e new.rooms at)
     (ends_marks k p vs id i n v e r.marks r.seats r.log r.rooms r.loads stand at may place number)

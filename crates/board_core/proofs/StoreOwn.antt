@@ -147,8 +147,8 @@ store_own k p h vs id q i n v r at may =
     (own_stored k p.pool p.pages vs id q i n v r.own r.pool at may)
     (rows_same k vs id v a r.rows at refl refl refl refl refl)
     record {
-      linked = linked_kept p.pool.states vs id v a at same (λ _. refl);
-      words = λ y t l _. (put_is p.pages q i n).others y t (inl (λ e. let own = may.own in let part = at_most (λ x. owns q x.pool.own) vs id v at in let none_here : total (λ x. owns q x.pool.own) vs ≡ 0 = ap (λ (x : ℕ). total (λ b. owns x b.pool.own) vs) (sym e) ∙ l.owned in omega arith));
+      linked = λ y l. inl (linked_kept p.pool.states vs id v a at same (λ _. refl) y l);
+      words = λ y t l _. inl ((put_is p.pages q i n).others y t (inl (λ e. let own = may.own in let part = at_most (λ x. owns q x.pool.own) vs id v at in let none_here : total (λ x. owns q x.pool.own) vs ≡ 0 = ap (λ (x : ℕ). total (λ b. owns x b.pool.own) vs) (sym e) ∙ l.owned in omega arith)));
     }
     (stored_tree k p.pool p.pages (stored_page p.pages q i n) (codes_in k p.regions) (IsOldRow k p.regions p.log.slots) vs id q i n v a r.tree r.pool at same refl refl may.own (put_is p.pages q i n))
 

@@ -40,6 +40,7 @@ use Rattle.board_core.proofs.MarkWord.{word_marks}
 use Rattle.board_core.proofs.RecordFrame.{records_word}
 use Rattle.board_core.proofs.FactFrame.{facts_word}
 use Rattle.board_core.proofs.RowFrame.{rows_word}
+use Rattle.board_core.proofs.SweptFrame.{swept_here}
 use Rattle.board_core.proofs.ChainFrame.{chains_same}
 use Rattle.board_core.proofs.PublishedFrame.{published_word}
 
@@ -57,6 +58,7 @@ store_word k p vs id loader word v more r at may adds seals =
     (full_later k vs id v a r.full at (let longer = length_push v.me.room.used word in omega arith) refl)
     (empty_same k p.pool.states vs id v a r.empty at refl)
     (chains_same k p.pages p.pool.states vs id v a r.chains at refl refl)
+    (swept_here k p h vs id v a r at refl)
     (loads_same k p.log p.log vs id v a r.loads at (not_later p.log p.log refl refl) refl)
     (word_rooms k p.regions p.log.front p.log.slots vs id loader word v more r.seats r.rooms at may adds)
     (word_marks k p.regions p.log.front p.log.slots vs id loader word v more r.marks r.seats r.rooms at may seals)

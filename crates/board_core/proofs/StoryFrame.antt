@@ -68,7 +68,7 @@ true_more k h e (LogFull front) t = let within : front ≤ length h = t.0 in (om
 true_more k h e (DataFull left need) t = tt
 true_more k h e NoPage t = tt
 true_more k h e (ChainFull pages) t = tt
-true_more k h e (Swept need front rows) t = absurd t
+true_more k h e (Swept need front rows) t = tt
 
 -- an event by another caller
 own_later : (h : List Event) (e : Event) (who : Who) → who ≢ Loader (caller_of e) → own_events (h ++ e ∷ []) who ≡ own_events h who

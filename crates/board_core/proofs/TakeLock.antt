@@ -31,6 +31,7 @@ use Rattle.board_core.proofs.StoryFrame.{stories_same}
 use Rattle.board_core.proofs.LoadFrame.{loads_same, not_later}
 use Rattle.board_core.proofs.Stepped.{by_log, still, words_moved}
 use Rattle.board_core.proofs.Changed.{set_lock}
+use Rattle.board_core.proofs.SweptFrame.{swept_here}
 use Rattle.board_core.proofs.ChainFrame.{chains_same}
 
 -- where the lock is free nobody has it
@@ -79,6 +80,7 @@ take k p h vs id c v r at who may free = by_log k p (record p { log = record p.l
     (full_same k vs id v (after_take v.me) r.full at refl refl)
     (empty_same k p.pool.states vs id v (after_take v.me) r.empty at refl)
     (chains_same k p.pages p.pool.states vs id v (after_take v.me) r.chains at refl refl)
+    (swept_here k p h vs id v (after_take v.me) r at refl)
     (loads_same k p.log (record p.log { lock = c }) vs id v (after_take v.me) r.loads at (not_later p.log (record p.log { lock = c }) refl refl) refl)
 
 pub take_allowed : (k : Shape) (slots id c : ℕ) (m : Mine) → m.0.me.who ≡ Loader c → MayTake m.0.me → Allows (Holds k) slots id m 1 (λ n. either (n == 0) c n) (Takes (step slots 1 0 c none) m)

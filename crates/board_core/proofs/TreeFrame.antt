@@ -16,7 +16,7 @@ use Rattle.board_core.specs.RoomRule.{SomeAccount}
 use Rattle.board_core.specs.Sheets.{Sheet, sheet_of, IsLinked, owns}
 use Rattle.board_core.specs.Rows.{HasRow, IsBegun, IsPlaced}
 use Rattle.board_core.specs.ClassTree.{Place, IsBelow, Tree, slot_at}
-use Rattle.board_core.specs.KnownPages.{ReachedFits, HasEarlier, EndTells, IsEnd, AreKept, KnowsPages}
+use Rattle.board_core.specs.KnownPages.{ReachedFits, HasEarlier, EndTells, IsEnd, AreKept, KnowsPages, IsTurned}
 use Rattle.board_core.specs.KnownRule.{Knows, KnownRule}
 use Rattle.board_core.specs.TreeRule.{TreeRule}
 use Rattle.board_core.specs.After.{after_made, root}
@@ -54,6 +54,7 @@ known_codes w s m c d old older rs less same k = record {
   fits = k.fits;
   chain = k.chain;
   ends = λ j x there is r o. tells_codes c d rs x.leaf x r (same r (less r o)) (k.ends j x there is r (less r o));
+  turned = k.turned;
   absent = λ j x there i code a b r o below. k.absent j x there i code a b r (less r o) (subst (λ (l : List ℕ). IsBelow (x.path ++ code ∷ []) l) (same r (less r o)) below);
   gone = λ j x there e r o below. k.gone j x there e r (less r o) (subst (λ (l : List ℕ). IsBelow x.path l) (same r (less r o)) below);
 }
@@ -90,6 +91,7 @@ knows_nothing w s m c placed old t none olds = record {
     fits = each_none (ReachedFits w s m);
     chain = each_none (HasEarlier []);
     ends = each_none (λ x. IsEnd x.leaf x → (r : ℕ) → old t.front r → EndTells c [] x.leaf x r);
+    turned = each_none (λ x. x.leaf ≡ true → IsTurned s m x);
     absent = each_none (λ x. (i code : ℕ) → get_elem? x.links i ≡ some Absent → get_elem? x.slots i ≡ some code → (r : ℕ) → old t.front r → IsBelow (x.path ++ code ∷ []) (c r) → ⊥);
     gone = each_none (λ x. x.leaf ≡ true → (r : ℕ) → old t.front r → IsBelow x.path (c r) → IsLinked s x.page ⊎ ((i : ℕ) × (i < 14) × (w x.page (2 + i) ≡ r)));
   };

@@ -5,7 +5,7 @@ use Rattle.board_core.specs.Each.{Each}
 use Rattle.board_core.specs.Sheets.{Sheet, IsLinked}
 use Rattle.board_core.specs.ClassTree.{Place, at_way, slot_at, Follows, PageStands, IsFrom, HasSlot, Stands, Tree}
 use Rattle.board_core.specs.KnownPages.{IsFullLeaf, KnowsPages}
-use Rattle.board_core.proofs.KnownSteps.{known_words}
+use Rattle.board_core.proofs.KnownSteps.{turned_stays, known_words}
 
 module _ (w u : ℕ → ℕ → ℕ) (s z : Sheet) (m : ℕ → Place) (codes : ℕ → List ℕ) (put puts : ℕ → Type 0)
     (more : (p : ℕ) → IsLinked s p → IsLinked z p) (less : (p : ℕ) → IsLinked z p → IsLinked s p) (word : (p i : ℕ) → IsLinked s p → u p i ≡ w p i) where
@@ -40,6 +40,7 @@ module _ (w u : ℕ → ℕ → ℕ) (s z : Sheet) (m : ℕ → Place) (codes : 
         slots = λ i n _ y. e (slot_at x.leaf i) ∙ y;
         more = λ p _. e 1;
         old = λ _ l. inl (more x.page l);
+        turned = λ _ g. turned_stays s z m m more (λ p l. refl) x g;
         still = λ _ o. inr (subst (λ (g : ℕ → ℕ). IsFullLeaf g x) (λ a i. sym (e i) a) o);
       })
       (λ j x there _ l n o b. inl (more x.page l)) some_r

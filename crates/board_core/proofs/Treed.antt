@@ -38,6 +38,9 @@ use Rattle.board_core.proofs.Stepped.{St, words_moved}
 use Rattle.board_core.proofs.Pooled.{LeavesLog}
 use Rattle.board_core.specs.declared.room.RoomAccount.{RoomAccount}
 use Rattle.board_core.specs.Sheets.{sheet_of}
+use Rattle.board_core.specs.Rows.{HasRow}
+use Rattle.board_core.proofs.Some.{some_changed}
+use Rattle.board_core.proofs.SweptFrame.{swept_step, swept_here}
 use Rattle.board_core.proofs.ChainFrame.{KeepsPages, chains_later}
 use Rattle.board_core.specs.declared.room.Row.{Row}
 use Rattle.board_core.specs.Each.{In}
@@ -51,6 +54,7 @@ pub by_tree : (k : Shape) (p : Parts) (w : ℕ → ℕ → ℕ) (h : List Event)
     → Rule k (record p { pages = w }) h (set vs id (with_me v a))
 by_tree k p w h vs id v a r at rest more pinned pool own rows stay tree = record {
   chains = chains_later k p.pages w (sheet_of p.pool.states vs) (sheet_of p.pool.states (set vs id (with_me v a))) vs id v a r.chains at stay rest.entries;
+  swept = swept_step k p (record p { pages = w }) h vs id v a r at (λ j u there i x here b s in_list t _ _ _. refl) (not_later p.log p.log refl refl) (λ n. some_changed (λ x. HasRow n x.tree.placed) vs id v a at (λ t. (t.0, more t.0 t.1, t.2))) (swept_here k p h vs id v a r at rest.entries);
   seats = seats_same k vs id v a r.seats at rest.who;
   log = log_same k p.log h vs id v a r.log at (λ i. record { who = rest.who i; log = rest.log i });
   stories = stories_same k h vs id v a r.stories at rest.who rest.entries;

@@ -180,7 +180,7 @@ without page p [] = []
 without page p (x ∷ xs) = keep_unless p (page x) x (without page p xs)
 
 abbrev pub after_retire : Account → ℕ → Account
-after_retire a p = record a { pool = record a.pool { own = without (λ o. o.page) p a.pool.own; parted = without (λ u. u.page) p a.pool.parted } }
+after_retire a p = record a { pool = record a.pool { parted = without (λ u. u.page) p a.pool.parted } }
 
 -- ---- the class tree
 
@@ -244,6 +244,14 @@ after_linked a n rows = record a { pool = record a.pool { own = let_go n a.pool.
 
 abbrev pub after_inner : Account → ℕ → Account
 after_inner a n = record a { pool = record a.pool { own = let_go n a.pool.own } }
+
+-- own pages are in the tree in place of a leaf, which is unlinked and has no stamp yet
+abbrev pub let_go_all : List ℕ → List Own → List Own
+let_go_all [] os = os
+let_go_all (n ∷ ns) os = let_go n (let_go_all ns os)
+
+abbrev pub after_split : Account → List ℕ → ℕ → Account
+after_split a numbers leaf = record a { pool = record a.pool { own = let_go_all numbers a.pool.own; parted = record { page = leaf; stamp = 0 } ∷ a.pool.parted } }
 
 -- an entry is the caller's row
 abbrev pub after_entry : Account → ℕ → Row → Account

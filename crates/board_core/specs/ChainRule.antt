@@ -21,8 +21,9 @@ pub record IsFullChain (w : ℕ → ℕ → ℕ) (count : ℕ) : Type 0 where
   pub next : (i : ℕ) (h : i < count) (g : i + 1 < count) → w (page i h) 1 ≡ page (i + 1) g
   pub more : (i : ℕ) (h : i < count) → i + 1 < count → w (page i h) 1 ≢ 0
 
--- and they are pages of the tree
+-- and they are pages of the tree, more than one
 pub record HasFullChain (w : ℕ → ℕ → ℕ) (s : Sheet) (count : ℕ) : Type 0 where
+  pub several : 1 < count
   pub chain : IsFullChain w count
   pub linked : (i : ℕ) (h : i < count) → IsLinked s (chain.page i h)
 
@@ -62,6 +63,7 @@ pub record HasWalked (a : Account) (count : ℕ) : Type 0 where
   pub rank : last.rank + 1 ≡ count
   pub full : page_room last.leaf ≤ length last.slots
 
+-- what a call answers beside descents, which have a step of their own
 abbrev pub IsToldChain : Shape → Account → Entry → Type 0
 IsToldChain k a (Published number event) = Unit {0}
 IsToldChain k a (Withdrawn number event) = Unit {0}
@@ -72,4 +74,4 @@ IsToldChain k a (LogFull front) = Unit {0}
 IsToldChain k a (DataFull left need) = Unit {0}
 IsToldChain k a NoPage = Unit {0}
 IsToldChain k a (ChainFull pages) = (pages ≡ k.chain) × HasWalked a pages
-IsToldChain k a (Swept need front rows) = Unit {0}
+IsToldChain k a (Swept need front rows) = ⊥

@@ -4,9 +4,9 @@ use Rattle.board_core.specs.declared.tree.Way.{Way}
 use Rattle.board_core.specs.declared.tree.Way.TheVariants.{More, Branch}
 use Rattle.board_core.specs.Sheets.{Sheet, IsLinked}
 
--- the depth from which on a full leaf goes on at its next page. Full leaves do so at every depth
+-- the depth from which on a full leaf goes on at its next page. Above it a full leaf is split
 unfoldable pub chained : ℕ
-chained = 0
+chained = 5
 
 -- where a linked page stands. The rule keeps one for each page, as a witness
 pub record Place : Type 0 where

@@ -25,6 +25,7 @@ use Rattle.board_core.specs.TreeRule.{TreeRule}
 use Rattle.board_core.specs.ChainRule.{ChainRule}
 use Rattle.board_core.specs.Sheets.{sheet_of}
 use Rattle.board_core.specs.PublishedRule.{PublishedRule}
+use Rattle.board_core.specs.Swept.{SweptRule}
 
 -- the parts, over the words by group, the history that they show, and all views
 pub record Rule (k : Shape) (p : Parts) (history : List Event) (vs : List View) : Type 0 where
@@ -44,6 +45,7 @@ pub record Rule (k : Shape) (p : Parts) (history : List Event) (vs : List View) 
   pub published : PublishedRule k vs
   pub pins : PinRule p.log.front vs
   pub chains : ChainRule k p.pages (sheet_of p.pool.states vs) vs
+  pub swept : SweptRule k p vs
   pub tree : TreeRule k p.pool.states p.pages (codes_in k p.regions) (IsOldRow k p.regions p.log.slots) vs
 
 pub record Holds (k : Shape) (s : State (Unit {0}) View) : Type 0 where

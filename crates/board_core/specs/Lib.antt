@@ -38,10 +38,16 @@ pub mod KnownRule
 pub mod TreeRule
 pub mod PublishedRule
 pub mod OldRows
+pub mod Swept
 pub mod PinRule
 pub mod ChainRule
 pub mod After
 pub mod Loaded
+pub mod Split
+pub mod Plan
 pub mod Answers
 pub mod Holds
 pub mod Steps
+pub mod Met
+pub mod Boards
+pub mod Sweeps

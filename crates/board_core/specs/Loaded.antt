@@ -4,6 +4,7 @@ use mathlib.Core.Option.{some}
 use lib.ListN.{get_elem?}
 use Rattle.htss_defs.specs.declared.shape.Shape.{Shape}
 use Rattle.board_core.specs.declared.account.Account.{Account}
+use Rattle.board_core.specs.declared.entry.Noted.{Noted}
 use Rattle.board_core.specs.declared.loads.ShownLoad.{ShownLoad}
 use Rattle.board_core.specs.declared.loads.WordLoad.{WordLoad}
 use Rattle.board_core.specs.declared.loads.StateLoad.{StateLoad}
@@ -86,11 +87,14 @@ pub record HasCode (a : Account) (block atom code word : ℕ) : Type 0 where
   pub code_is : load.code ≡ code
   pub found : load.word ≡ word
 
--- these are the words of a block as they were loaded, the two marks excepted
+-- a code of some row of the block was loaded
+abbrev pub KnowsRow : Account → ℕ → Type 0
+KnowsRow a block = (atom : ℕ) × (code : ℕ) × (word : ℕ) × HasCode a block atom code word
+
+-- these are the words of a block as they were loaded, the two marks and the codes excepted
 pub record HasBlock (k : Shape) (a : Account) (block : ℕ) (words : ℕ → ℕ) : Type 0 where
   pub head : KnowsHead k a block (words 0)
   pub facts : (i : ℕ) → 3 ≤ i → i < code_words_at (words 0) → HasFact a block i (words i)
-  pub codes : (atom code : ℕ) → atom < atoms_in (words 0) → code < 5 → HasCode a block (atom + 1) code (words (code_word_at (words 0) atom code))
   pub bonds : (i : ℕ) → bond_words_at (words 0) ≤ i → i < block_size (words 0) → HasFact a block i (words i)
 
 -- the second account has seen and loaded all that the first has
@@ -102,6 +106,7 @@ pub record Grows (a b : Account) : Type 0 where
   pub facts : (j : ℕ) (x : WordLoad) → get_elem? a.loads.facts j ≡ some x → get_elem? b.loads.facts j ≡ some x
   pub codes : (j : ℕ) (x : CodeLoad) → get_elem? a.loads.codes j ≡ some x → get_elem? b.loads.codes j ≡ some x
   pub fronts : (j x : ℕ) → get_elem? a.loads.fronts j ≡ some x → get_elem? b.loads.fronts j ≡ some x
+  pub entries : (j : ℕ) (x : Noted) → get_elem? a.entries j ≡ some x → get_elem? b.entries j ≡ some x
 
 -- ---- pages and epochs
 

@@ -10,6 +10,12 @@ use Rattle.board_core.specs.Blocks.{atoms_in, code_words_at, name_in, molecule_i
 abbrev pub code_word_at : ℕ → ℕ → ℕ → ℕ
 code_word_at head atom code = code_words_at head + (5 * atom + code)
 
+-- what is read of it: the name and the marked molecule
+pub record ShowsRecord (block : ℕ → ℕ) : Type 0 where
+  pub name : IsName (name_in block)
+  pub molecule : IsMolecule (molecule_in block)
+  pub marked : IsMarked (molecule_in block)
+
 pub record IsRecord (block : ℕ → ℕ) : Type 0 where
   pub name : IsName (name_in block)
   pub molecule : IsMolecule (molecule_in block)

@@ -24,6 +24,9 @@ block_named n = n / 2 ^ 10
 abbrev pub atom_named : ℕ → ℕ
 atom_named n = n % 2 ^ 10
 
+abbrev pub row_named : ℕ → Row
+row_named n = record { block = block_named n; atom = atom_named n }
+
 -- the five codes of an atom, by the words of its block
 abbrev pub code_of : (ℕ → ℕ) → ℕ → ℕ → ℕ
 code_of block atom code = block (code_word_at (block 0) (atom - 1) code)

@@ -20,10 +20,11 @@ use Rattle.board_core.specs.Truths.{IsTrueRoom, IsTrueLog, IsTruePool, told_in}
 use Rattle.board_core.specs.declared.room.Sealed.{Sealed}
 use Rattle.board_core.specs.declared.room.Row.{Row}
 use Rattle.board_core.specs.RoomRule.{own_block, region_of, store_of, IsSealed, SealedFits}
-use Rattle.board_core.specs.MarkRule.{IsAmong, AreListed}
+use Rattle.board_core.specs.MarkRule.{IsAmong, AreListed, ShowsAt}
 use Rattle.board_core.specs.Loaded.{HasLoaded, SawMark, IsOpenMark, IsInTable, IsPage, HasEpoch, HasState, HasParted, HasOwn, IsVisit, HasStored, one_word, leaf_place, next_place, IsToPlace, IsToClaim}
 use Rattle.board_core.specs.declared.tree.Link.TheVariants.{Unread}
-use Rattle.board_core.specs.ClassTree.{chained, page_room, header_of}
+use Rattle.board_core.specs.ClassTree.{Place, chained, page_room, header_of}
+use Rattle.board_core.specs.Plan.{own_word, IsWhole, MayHaveCodes, Plan}
 use Rattle.board_core.specs.KnownPages.{place_of}
 use Rattle.board_core.specs.Rows.{entry_word, code_of, words_of, IsOwnRow, HasRow}
 use mathlib.Core.Option.{some}
@@ -35,8 +36,9 @@ use Rattle.board_core.specs.StateRule.{StatesStand}
 use Rattle.board_core.specs.ChainRule.{IsToldChain}
 use Rattle.board_core.specs.EpochRule.{IsPast, last_epoch}
 use Rattle.board_core.specs.LogWord.{kind_in, publication_word, target_in, withdrawal_word}
-use Rattle.board_core.specs.After.{visited, after_begun, after_linked, after_inner, after_entry, after_own, after_slot, after_link, after_more, after_epoch, after_advance, after_pin, after_unpin, after_pass, after_state, after_lost, after_page, after_retire, after_code, after_fact, after_head, after_mark, after_word, noted, after_take, after_free, after_answer, after_front, after_shows, after_ends, after_logged, after_event, after_shown}
+use Rattle.board_core.specs.After.{visited, after_begun, after_linked, after_inner, after_split, after_entry, after_own, after_slot, after_link, after_more, after_epoch, after_advance, after_pin, after_unpin, after_pass, after_state, after_lost, after_page, after_retire, after_code, after_fact, after_head, after_mark, after_word, noted, after_take, after_free, after_answer, after_front, after_shows, after_ends, after_logged, after_event, after_shown}
 use Rattle.board_core.specs.PublishedRule.{AllPlaced}
+use Rattle.board_core.specs.Swept.{IsTrueSwept}
 
 abbrev pub Mine : Type 0
 Mine = Me (Unit {0}) View
@@ -140,10 +142,10 @@ pub record MayTakePage (k : Shape) (a : Account) (loader p x : ℕ) : Type 0 whe
   pub below : x ≢ 0 → x ≤ a.pool.low
   pub scanned : x ≢ 0 → k.loaders + k.searchers ≤ a.pool.passed
 
--- a page may be retired with this stamp: it is unlinked and has it, or it is the caller's own, and the epoch was loaded
+-- a page may be retired with this stamp: it is unlinked and has it
 pub record MayRetire (k : Shape) (a : Account) (p n : ℕ) : Type 0 where
   pub inside : IsPage k p
-  pub kind : HasParted a p n ⊎ (HasOwn a p × HasEpoch a n)
+  pub parted : HasParted a p n
 
 -- a code of an own row may be loaded
 pub record MayLoadOwn (k : Shape) (a : Account) (row : Row) (head code : ℕ) : Type 0 where
@@ -220,6 +222,34 @@ pub record MayLinkInner (k : Shape) (a : Account) (j n c : ℕ) : Type 0 where
   pub inner : (visited a.tree.reached j).leaf ≡ false
   pub claim : IsToClaim k a (visited a.tree.reached j).path c
 
+-- the link of a code, behind which a full leaf was reached, may be exchanged for own pages that are to take the leaf's place, whatever
+-- codes its rows have
+pub record MayExchangeLeaf (k : Shape) (a : Account) (j i c l : ℕ) (numbers : List ℕ) (first : ℕ) : Type 0 where
+  pub load : MayLoadLink k a j i c
+  pub visit : IsVisit k a l
+  pub leaf : (visited a.tree.reached l).leaf ≡ true
+  pub path : (visited a.tree.reached l).path ≡ (visited a.tree.reached j).path ++ c ∷ []
+  pub rank : (visited a.tree.reached l).rank ≡ 0
+  pub low : length (visited a.tree.reached l).path < 5
+  pub whole : Each (IsWhole a) numbers
+  pub places : ℕ → Place
+  pub plan : (codes : ℕ → List ℕ) → MayHaveCodes a (visited a.tree.reached l) codes
+      → Plan (own_word a.pool.own) places codes (IsAmong numbers) a.tree.reached (visited a.tree.reached j) (visited a.tree.reached l) i first
+
+-- which exchange it is: the inner page by its number, the link and its code, the leaf's page, the own pages that go, and the one that
+-- takes the leaf's place
+pub record Exchange : Type 0 where
+  pub inner : ℕ
+  pub index : ℕ
+  pub code : ℕ
+  pub leaf : ℕ
+  pub numbers : List ℕ
+  pub first : ℕ
+
+-- the account after it is won: the page in the leaf's place is known as if it had been loaded
+abbrev pub after_exchange : Account → Exchange → Account
+after_exchange a e = after_link (after_split a e.numbers e.leaf) e.inner e.index e.code e.first false
+
 -- an exchange of a page word that is 0: a link for a leaf that has a row, an entry for a row, a code word for a code, the next page for
 -- a leaf that has a row, and for an inner page that has a code. Pages that were reached go by their numbers
 pub data Claim : Type 0 where
@@ -265,11 +295,19 @@ pub record Known (k : Shape) (p : Parts) : Type 0 where
   pub legal : IsLegal (history_of k p)
   pub blocks : KnownBlocks k p
 
--- what the words have that the account has seen
+-- the first mark of a block is the number of the event, if any, that publishes it
+pub record FirstMark (k : Shape) (p : Parts) (block : ℕ) : Type 0 where
+  pub told : (number : ℕ) → 0 < number → number ≤ p.log.front → block_at k p.regions block shown_at ≡ number → ShowsAt p.log.front p.log.slots block number
+  pub stands : (number : ℕ) → ShowsAt p.log.front p.log.slots block number → block_at k p.regions block shown_at ≡ number
+
+-- what the words have that the account has seen: what was loaded, the first marks of the blocks of rows of which codes were loaded, and
+-- what its descents answered
 pub record Agrees (k : Shape) (p : Parts) (a : Account) : Type 0 where
   pub seen : a.log.seen ≤ p.log.front
   pub shown : Each (LoadFits k p.log) a.loads.shown
   pub blocks : BlocksStand k p.regions p.log.front a.loads
+  pub swept : Each (λ n. IsTrueSwept k p n.entry) a.entries
+  pub firsts : Each (λ l. FirstMark k p l.row.block) a.loads.codes
 
 -- the words may be these: the rule allows them, and they have what the account has loaded
 pub record MayBe (k : Shape) (p : Parts) (a : Account) : Type 0 where
@@ -417,6 +455,13 @@ pub record LoadsMore (j : ℕ) (s : Step (Unit {0})) (m : Mine) (found : ℕ) (n
 pub record Claims (after : Account) (Loads : Step (Unit {0}) → Mine → ℕ → Mine → Type 0) (s : Step (Unit {0})) (m : Mine) (found : ℕ) (n : Mine) : Type 0 where
   pub won : found ≡ 0 → n ≡ became m after
   pub lost : found ≢ 0 → Loads s m found n
+
+-- the leaf stood behind the link: the new pages are in the tree, and the first of them is reached. Else another page did, which is an
+-- inner one and was reached
+pub record ExchangesLeaf (e : Exchange) (s : Step (Unit {0})) (m : Mine) (found : ℕ) (n : Mine) : Type 0 where
+  pub won : found ≡ e.leaf → n ≡ became m (after_exchange m.0.me e)
+  pub lost : found ≢ e.leaf → n ≡ became m (after_link m.0.me e.inner e.index e.code found false)
+  pub page : IsPage m.0.shape found
 
 abbrev pub LoadsInstead : Claim → Step (Unit {0}) → Mine → ℕ → Mine → Type 0
 LoadsInstead (LeafBelow j i c n row) = LoadsLink j i c

@@ -19,7 +19,7 @@ abbrev pub reply_of : Reply → Answer
 reply_of (Hits hits) = found hits
 reply_of OverBudget = over_budget
 
--- the part of an entry's truth that reads the history. No step reads words of pages yet, so no account has an entry that tells of them
+-- the part of an entry's truth that reads the history
 abbrev pub IsTrueLog : Shape → List Event → Entry → Type 0
 IsTrueLog k h (Published number event) = HasEvent h number event
 IsTrueLog k h (Withdrawn number event) = HasEvent h number event
@@ -30,7 +30,7 @@ IsTrueLog k h (LogFull front) = (front ≤ length h) × (front ≡ k.log)
 IsTrueLog k h (DataFull left need) = Unit {0}
 IsTrueLog k h NoPage = Unit {0}
 IsTrueLog k h (ChainFull pages) = Unit {0}
-IsTrueLog k h (Swept need front rows) = ⊥
+IsTrueLog k h (Swept need front rows) = Unit {0}
 
 -- the part that reads how many words of the caller's region are left
 abbrev pub IsTrueRoom : ℕ → Entry → Type 0

@@ -19,7 +19,8 @@ use Rattle.board_core.specs.declared.room.RoomAccount.{RoomAccount}
 use Rattle.board_core.specs.Blocks.{first_of}
 use Rattle.board_core.specs.Loaded.{Grows}
 use Rattle.board_core.specs.After.{noted, after_answer, after_front, after_take, after_free}
-use Rattle.board_core.proofs.Grown.{grows_trans, grows_quiet, grows_front}
+use Rattle.board_core.proofs.Lists.{at_longer}
+use Rattle.board_core.proofs.Grown.{entries_added, grows_trans, grows_quiet, grows_front}
 use Rattle.board_core.proofs.Shown.{length_first}
 use Rattle.block_words.specs.Writing.{size_of, written}
 use Rattle.board.specs.Seated.{Place, Seated, IsOf, number_in, with_account}
@@ -62,7 +63,7 @@ prepared a d s block begun placed es rows told =
       unpinned = rows.unpinned;
       noted_are = told;
       used = ap (λ (r : RoomAccount). length r.used) rows.room ∙ (length-append a.room.used words ∙ ap (λ n. length a.room.used + n) (length_first (written s.name s.mol) (size_of s.name s.mol) ∙ block_size (named s)));
-      grows = grows_trans a (after_block a s) d (grows_quiet a (after_block a s) (omega arith) refl) rows.grows;
+      grows = grows_trans a (after_block a s) d (grows_quiet a (after_block a s) (omega arith) refl (λ j x there. there)) rows.grows;
     }
 
 staged_is : (a d : Account) (s : Staging) → HasStaged a d s → IsPrepared a d s []
@@ -98,7 +99,7 @@ seen_before : (a d : Account) (s : Staging) (front : ℕ) → IsPrepared a d s [
 seen_before a d s front is later = let same : d.log.seen ≡ a.log.seen = ap (λ (l : LogAccount). l.seen) is.log in omega arith
 
 grows_locked : (a d : Account) (s : Staging) (front : ℕ) → IsPrepared a d s [] → d.log.seen ≤ front → Grows a (locked d front)
-grows_locked a d s front is later = grows_trans a d (locked d front) is.grows (grows_trans d (after_take d) (locked d front) (grows_quiet d (after_take d) (omega arith) refl) (grows_front (after_take d) front later))
+grows_locked a d s front is later = grows_trans a d (locked d front) is.grows (grows_trans d (after_take d) (locked d front) (grows_quiet d (after_take d) (omega arith) refl (λ j x there. there)) (grows_front (after_take d) front later))
 
 -- the log is full
 full-answers : (k : Shape) (a d : Account) (s : Staging) (front : ℕ) → IsPrepared a d s [] → d.log.seen ≤ front → front ≡ k.log → length a.room.used + size_of s.name s.mol ≤ k.room
@@ -114,7 +115,7 @@ full-answers k a d s front is later full room c who =
       fronts = all_one (λ mark. a.log.seen ≤ mark) front before;
       used = is.used;
       says = (full, has_room k a s room);
-      grows = grows_trans a (locked d front) b (grows_locked a d s front is later) (grows_quiet (locked d front) b (omega arith) refl);
+      grows = grows_trans a (locked d front) b (grows_locked a d s front is later) (grows_quiet (locked d front) b (omega arith) refl (entries_added (locked d front) b (noted (locked d front).loads (LogFull front ∷ [])) refl));
     }
 
 -- it is published
@@ -134,7 +135,7 @@ published-answers k a d s front is later room c who =
       fronts = all_none _;
       used = is.used;
       says = has_room k a s room;
-      grows = grows_trans a (locked d front) b (grows_locked a d s front is later) (grows_quiet (locked d front) b (omega arith) refl);
+      grows = grows_trans a (locked d front) b (grows_locked a d s front is later) (grows_quiet (locked d front) b (omega arith) refl (λ j x there. at_longer (d.entries ++ noted b.loads (told ∷ [])) [] j x (at_longer d.entries (noted b.loads (told ∷ [])) j x there)));
     }
 
 -- ---- the lines
@@ -224,7 +225,7 @@ room-answers k a s left need room full c who =
       fronts = all_none _;
       used = omega arith;
       says = (full.need_is ∙ block_size (named s), less, omega (arith, left_is, room));
-      grows = grows_quiet a b (omega arith) refl;
+      grows = grows_quiet a b (omega arith) refl (entries_added a b (noted a.loads (DataFull left need ∷ [])) refl);
     }
 
 page-answers : (k : Shape) (a d : Account) (s : Staging) → length a.room.used + size_of s.name s.mol ≤ k.room → IsPrepared a d s (NoPage ∷ []) → Answers k a d (to_record (taken (named s) no_page))

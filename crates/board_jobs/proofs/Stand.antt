@@ -59,7 +59,7 @@ module _ (k : Shape) (p : Parts) where
   pub stand_met : (before after : List Account) (front : ℕ) → HaveMet before after front → Each (Stands k p) after → Each (Stands k p) before
   stand_met before after front met all j x there =
       let seen : Stands k p (with_seen front x) = subst (Each (Stands k p)) met.after_is all j (with_seen front x) (at_map (with_seen front) before j x there) in
-      record { may = board_before k x (with_seen front x) (grows_quiet x (with_seen front x) (met.most j x there) refl) p seen.may; entries = seen.entries }
+      record { may = board_before k x (with_seen front x) (grows_quiet x (with_seen front x) (met.most j x there) refl (λ i y here. here)) p seen.may; entries = seen.entries }
 
   pub stand_groups : (files : List (ℕ × List ℕ)) (budget : ℕ) (groups : List Group) (number : ℕ) (before after : List Account) (front : ℕ) (done : List Done)
       → AreGroupsDone k files budget number groups before after front done → Each (Stands k p) after → Each (Stands k p) before

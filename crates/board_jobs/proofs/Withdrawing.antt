@@ -30,7 +30,7 @@ seen_in a b at es called = ap (λ l. l.seen) called.log
 
 grows_called : (a b : Account) (front at : ℕ) (es : List Entry) → a.log.seen ≤ front → IsCalled (at_lock a front) b at es → Grows a b
 grows_called a b front at es later called =
-    grows_trans a (at_lock a front) b (grows_trans a (after_take a) (at_lock a front) (grows_quiet a (after_take a) (omega arith) refl) (grows_front (after_take a) front later)) called.grows
+    grows_trans a (at_lock a front) b (grows_trans a (after_take a) (at_lock a front) (grows_quiet a (after_take a) (omega arith) refl (λ j x there. there)) (grows_front (after_take a) front later)) called.grows
 
 -- the words of the region are the same
 used_called : (a b : Account) (front at : ℕ) (es : List Entry) → IsCalled (at_lock a front) b at es → length b.room.used ≡ length a.room.used + 0

@@ -1,6 +1,7 @@
 -- A row is begun, and the walk goes down depth by depth.
 use Rattle.std.proofs.Common.{◌≡◌, ◌≢◌, ℕ, zero, suc, ◌+◌, ◌*◌, ◌<◌, ◌≤◌, ◌^◌, List, [], ◌∷◌, ◌++◌, length, get_or, refl, sym, ap, ◌∙◌, subst, arith}
 use mathlib.Core.Option.{some-ne-none}
+use lib.ListN.{get_elem?}
 use Rattle.htss_defs.specs.declared.shape.Shape.{Shape}
 use Rattle.htss_defs.specs.declared.shape.Field.TheVariants.{Loaders, Searchers, Pages, Room, Log}
 use Rattle.htss_defs.specs.Shapes.{IsShape}
@@ -10,6 +11,8 @@ use Rattle.board_core.specs.declared.account.Who.{Who}
 use Rattle.board_core.specs.declared.entry.Entry.{Entry}
 use Rattle.board_core.specs.declared.entry.Entry.TheVariants.{NoPage as PageWanted, ChainFull as ChainWasFull}
 use Rattle.board_core.specs.declared.entry.Noted.{Noted}
+use Rattle.board_core.specs.declared.account.Account.{Account}
+use Rattle.board_core.specs.declared.loads.Loads.{Loads}
 use Rattle.board_core.specs.declared.room.Row.{Row}
 use Rattle.board_core.specs.declared.tree.Reached.{Reached}
 use Rattle.board_core.specs.declared.tree.TreeAccount.{TreeAccount}
@@ -17,19 +20,23 @@ use Rattle.board_core.specs.Each.{In}
 use Rattle.board_core.specs.Loaded.{IsPage}
 use Rattle.board_core.specs.Rows.{entry_word, code_of, codes_of, words_of, own_codes, HasRow}
 use Rattle.board_core.specs.After.{root, visited, noted, after_code, after_begun, after_unpin}
-use Rattle.board_core.proofs.Lists.{at_last}
-use Rattle.board.specs.Seated.{Place, Seated, IsOf, with_account}
+use Rattle.board_core.proofs.Lists.{at_last, at_longer}
+use Rattle.board.specs.Seated.{Place, Seated, IsOf, with_account, with_stock}
 use Rattle.page_pool.specs.Taking.{IsPinned}
 use Rattle.class_tree.specs.declared.insert.InsertError.{InsertError}
 use Rattle.class_tree.specs.declared.insert.InsertError.TheVariants.{NoPage, ChainFull}
-use Rattle.class_tree.specs.Inserting.{HasAnswered, HasFullChain, HasPlaced, IsRefusal}
+use Rattle.class_tree.specs.Inserting.{HasAnswered, HasBegun, HasFullChain, IsNeeded, HasPlaced, IsRefusal}
 use Rattle.class_tree.specs.Refusing.{Answers, Stops}
 use Rattle.class_tree.specs.declared.walks.Stop.{Stop}
 use Rattle.class_tree.specs.declared.walks.Slot.{Slot}
 use Rattle.class_tree.specs.declared.walks.Target.{Target}
-use Rattle.class_tree.specs.Linking.{ComesDown}
-use Rattle.class_tree.specs.Walking.{Rest, IsTarget, IsDown, Goes, IsFound, Places, Begins}
+use Rattle.class_tree.specs.Loading.{LoadsOn, code_loads}
+use Rattle.class_tree.specs.declared.link.Step.{Step}
+use Rattle.class_tree.specs.declared.link.Step.TheVariants.{Down}
+use Rattle.class_tree.specs.Linking.{ComesDown, FollowsTo}
+use Rattle.class_tree.specs.Walking.{Rest, rest_of, IsTarget, IsDown, Goes, IsFound, Places, Begins}
 use Rattle.class_tree.proofs.Grown.{goes_same, goes_on}
+use Rattle.class_tree.proofs.Loadings.{lists_of, grows_on, grows_equal, pinned_grows}
 
 -- a board has fewer words than that
 pub block_fits : (k : Shape) (block : ℕ) → IsShape k → block < total_of k → block < 2 ^ 40
@@ -47,7 +54,7 @@ block_fits k block h inside =
 pub record IsAtDepth (k : Shape) (c d : Seated) (s : Stop) (depth : ℕ) (t : Target) : Type 0 where
   pub down : IsDown k d.account s depth t
   pub goes : Goes 0 c d
-  pub number : s.number ≤ 65536 * depth
+  pub number : s.number ≤ 65537 * depth
   pub low : depth < 5
 
 pub first_depth : (k : Shape) (c : Seated) (s : Stop) (t : Target) → IsDown k c.account s 0 t → s.number ≡ 0 → IsAtDepth k c c s 0 t
@@ -63,6 +70,9 @@ next_depth k c d e f s next x depth t h found down = record {
   number = (let now = down.number in let before = found.number in omega arith);
   low = down.low;
 }
+
+pub comes_down : (k : Shape) (c d : Seated) (x : Slot) (next : Stop) (depth : ℕ) (t : Target) (s : Step) → s ≡ Down next → FollowsTo k c d x depth t s → ComesDown k c d x.stop next depth t
+comes_down k c d x next depth t s e g = subst (FollowsTo k c d x depth t) e g
 
 -- ---- the row
 
@@ -142,13 +152,16 @@ inserted k c d e f g row t (Ok u) b is p placed unpin = record {
   entries = ap (λ (q : Seated). q.account.entries) unpin ∙ (ap (λ (q : Rest). q.entries) placed.rest ∙ (ap (λ (q : Seated). q.account.entries) p.after ∙ ap (λ (q : Rest). q.entries) b.rest));
 }
 inserted k c d e f g row t (Err NoPage) b is p s unpin = record {
-  answered = answered k c d e f g row PageWanted b p s.answers unpin;
-  before = s.before;
-  empty = s.empty;
-  after = f;
-  refused = s.refused;
-  end = unpin;
-  none = ap (λ (q : Seated). q.stock) unpin ∙ s.none;
+  answered = answered k c d e f g row PageWanted b p s.refused.answers unpin;
+  before = s.refused.before;
+  empty = s.refused.empty;
+  after = s.refused.after;
+  refused = s.refused.refused;
+  end = unpin ∙ (ap (λ (q : Seated). with_account q (after_unpin q.account)) s.refused.end
+      ∙ (λ i. with_account (with_stock s.refused.after (ap (λ (q : Seated). q.stock) (sym unpin) i)) (after_unpin s.refused.after.account)));
+  need = s.need;
+  needed = subst (λ (r : Row). IsNeeded k s.refused.after.account r s.need) is (subst (λ (q : Seated). IsNeeded k q.account t.row s.need) s.refused.end s.needed);
+  short = (let same = ap (λ (q : Seated). length q.stock) unpin in let short = s.refused.short in omega arith);
 }
 inserted k c d e f g row t (Err (ChainFull pages)) b is p s unpin = record {
   answered = answered k c d e f g row (ChainWasFull pages) b p s.answers unpin;
@@ -157,3 +170,52 @@ inserted k c d e f g row t (Err (ChainFull pages)) b is p s unpin = record {
   chain = subst (HasFullChain k s.middle.account) is s.chain;
   end = unpin ∙ ap (λ (q : Seated). with_account q (after_unpin q.account)) s.after;
 }
+
+-- ---- whatever is answered
+
+placed_grows : (k : Shape) (e f : Seated) (row : Row) (r : Result (Unit {0}) InsertError) → MatchResult r (λ _. Places e f row) (λ x. Stops k e f row x) → LoadsOn e.account f.account
+placed_grows k e f row (Ok u) p = p.grows
+placed_grows k e f row (Err NoPage) s = s.refused.answers.grows
+placed_grows k e f row (Err (ChainFull pages)) s = s.answers.grows
+
+-- what is the same after each answer
+abbrev kept_of : Account → Rest
+kept_of a = record (rest_of a) { announced = 0; placed = []; entries = [] }
+
+placed_kept : (k : Shape) (e f : Seated) (row : Row) (r : Result (Unit {0}) InsertError) → MatchResult r (λ _. Places e f row) (λ x. Stops k e f row x) → kept_of f.account ≡ kept_of e.account
+placed_kept k e f row (Ok u) p = ap (λ (x : Rest). record x { announced = 0; placed = []; entries = [] }) p.rest
+placed_kept k e f row (Err NoPage) s = ap (λ (x : Rest). record x { announced = 0; placed = []; entries = [] }) s.refused.answers.rest
+placed_kept k e f row (Err (ChainFull pages)) s = ap (λ (x : Rest). record x { announced = 0; placed = []; entries = [] }) s.answers.rest
+
+-- after the row was begun
+after_grows : (k : Shape) (d e f g : Seated) (row : Row) (t : Target) (r : Result (Unit {0}) InsertError) → IsPinned d e → MatchResult r (λ _. Places e f t.row) (λ x. Stops k e f t.row x) → g ≡ with_account f (after_unpin f.account) → LoadsOn d.account g.account
+after_grows k d e f g row t r p placed unpin = grows_on d.account e.account g.account (pinned_grows d e p)
+    (grows_on e.account f.account g.account (placed_grows k e f t.row r placed) (grows_equal f.account g.account (ap (λ (x : Seated). lists_of x.account) unpin)))
+
+begun_grows : (k : Shape) (c d : Seated) (row : Row) → Begins k c d row → LoadsOn c.account d.account
+begun_grows k c d row b = record {
+  epochs = λ j x h. ap (λ (l : Loads). get_elem? l.epochs j) b.loads ∙ h;
+  announcements = λ j x h. ap (λ (l : Loads). get_elem? l.announcements j) b.loads ∙ h;
+  states = λ j x h. ap (λ (l : Loads). get_elem? l.states j) b.loads ∙ h;
+  lost = λ j x h. ap (λ (l : Loads). get_elem? l.lost j) b.loads ∙ h;
+  codes = λ j x h. ap (λ (l : Loads). get_elem? l.codes j) b.loads ∙ at_longer c.account.loads.codes (code_loads row 0 (own_codes k c.account row)) j x h;
+  heads = λ j x h. ap (λ (l : Loads). get_elem? l.heads j) b.loads ∙ h;
+}
+
+pub has_begun : (k : Shape) (c d e f g : Seated) (row : Row) (t : Target) (r : Result (Unit {0}) InsertError) → Begins k c d row → IsPinned d e → MatchResult r (λ _. Places e f t.row) (λ x. Stops k e f t.row x) → g ≡ with_account f (after_unpin f.account) → HasBegun k c g row
+has_begun k c d e f g row t r b p placed unpin =
+    let after = after_grows k d e f g row t r p placed unpin in
+    let kept : kept_of g.account ≡ record (kept_of c.account) { begun = c.account.tree.begun ++ row ∷ [] } =
+    ap (λ (x : Seated). kept_of x.account) unpin ∙ (placed_kept k e f t.row r placed ∙ (ap (λ (x : Seated). kept_of x.account) p.after ∙ ap (λ (x : Rest). record x { announced = 0; placed = []; entries = [] }) b.rest)) in record {
+      who = ap (λ (x : Rest). x.who) kept;
+      unpinned = ap (λ (x : Seated). x.account.pool.announced) unpin;
+      begun = ap (λ (x : Rest). x.begun) kept;
+      codes = λ j x h. after.codes j x (ap (λ (l : Loads). get_elem? l.codes j) b.loads ∙ h);
+      log = ap (λ (x : Rest). x.log) kept;
+      room = ap (λ (x : Rest). x.room) kept;
+      fronts = ap (λ (x : Rest). x.fronts) kept;
+      shown = ap (λ (x : Rest). x.shown) kept;
+      marks = ap (λ (x : Rest). x.marks) kept;
+      facts = ap (λ (x : Rest). x.facts) kept;
+      grows = grows_on c.account d.account g.account (begun_grows k c d row b) after;
+    }

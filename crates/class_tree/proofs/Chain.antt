@@ -27,7 +27,7 @@ use Rattle.class_tree.specs.Stocked.{IsStockedBut, IsReady}
 use Rattle.class_tree.specs.Walking.{here, Rest, rest_of, AreHigh, IsFresh, IsAt, IsTarget, IsSeeking, Goes, IsNext}
 use Rattle.class_tree.proofs.Pages.{within, target_kept}
 use Rattle.class_tree.proofs.Finding.{to_claim}
-use Rattle.class_tree.proofs.Grown.{equal_shown, same_fresh, same_high, Grown, grown_more, none_more, grown_fresh, grown_high, grown_at, rest_more, goes_on, shown_goes, grown_goes}
+use Rattle.class_tree.proofs.Grown.{equal_shown, same_fresh, same_high, Grown, grown_more, none_more, grown_fresh, grown_high, grown_at, rest_more, lists_more, goes_on, shown_goes, grown_goes}
 
 -- ---- whose the caller is
 
@@ -128,9 +128,9 @@ next_at k a b s next path rank n leaf h e some_n inside is =
     let page : next.page ≡ n = ap (λ (x : Stop). x.page) is in
     subst (λ (x : Account). IsAt k x next path (rank + 1) leaf 0) (sym e)
     (subst (λ (x : List ℕ × ℕ × Bool). IsAt k (after_more a s.number n) next x.0 x.1 x.2 0) (λ i. (h.on i, (ap (λ (z : ℕ). z + 1) h.at) i, h.kind i))
-    (grown_at k a (after_more a s.number n) s next (next_of (here a s) n) g
+    (grown_at k a (after_more a s.number n) next (next_of (here a s) n) g
     (subst (λ (x : Rest). 0 < x.announced) (sym (rest_more a s.number n)) h.pinned)
-    (subst (IsPage k) (sym page) inside) h.last (ap (λ (x : Stop). x.number) is) (sym page) refl refl refl))
+    (subst (IsPage k) (sym page) inside) (ap (λ (x : Stop). x.number) is ∙ sym h.last) (sym page) refl refl refl))
 
 -- ---- the next page of an inner chain
 
@@ -179,7 +179,7 @@ pub next_read : (k : Shape) (c d : Seated) (s next : Stop) (depth rank n : ℕ) 
 next_read k c d s next depth rank n t h e some_n inside is =
     let w = whole k c.account s (take depth t.codes) rank false h.at in
     let less = whole_less k c.account s (take depth t.codes) rank false w in record {
-      goes = grown_goes (s.number + 1) c d (after_more c.account s.number n) (next_of (here c.account s) n) (omega arith) e (rest_more c.account s.number n) (grown_more c.account s n less some_n);
+      goes = grown_goes (s.number + 1) c d (after_more c.account s.number n) (next_of (here c.account s) n) (omega arith) e (rest_more c.account s.number n) (lists_more c.account s.number n) (grown_more c.account s n less some_n);
       number = ap (λ (x : Stop). x.number) is;
       seeking = seeks_next k c.account d.account s next depth rank n t w (seeks k c.account s depth rank 7 t h) (ap (λ (x : Seated). x.account) e) some_n inside is;
     }
@@ -194,7 +194,7 @@ at_end_of k c d e s path rank word page header first leaf w load none ready =
     let less = whole_less k c.account s path rank leaf w in
     let zero_load : d ≡ with_account c (after_more c.account s.number 0) = load ∙ ap (λ (n : ℕ). with_account c (after_more c.account s.number n)) none in
     let zero_whole : IsWhole k d.account s path rank leaf = subst (λ (x : Seated). IsWhole k x.account s path rank leaf) (sym zero_load) (whole_zero k c.account s path rank leaf w) in record {
-      goes = goes_on (s.number + 1) (length d.account.tree.reached) c d e (let last = zero_whole.last in omega arith) (shown_goes (s.number + 1) c d (after_more c.account s.number 0) zero_load refl (none_more c.account s less)) ready.goes;
+      goes = goes_on (s.number + 1) (length d.account.tree.reached) c d e (let last = zero_whole.last in omega arith) (shown_goes (s.number + 1) c d (after_more c.account s.number 0) zero_load refl refl (none_more c.account s less)) ready.goes;
       whole_page = whole_same k d.account e.account s path rank leaf ready.reached (ap (λ (x : Rest). x.announced) ready.goes.rest) zero_whole;
     }
 
@@ -247,7 +247,7 @@ inner_won k c d e f s next depth rank word page header t h load none ready link 
     let w : IsWhole k b s path rank false = whole_same k e.account b s path rank false refl refl end.whole_page in
     let less = whole_less k b s path rank false w in
     let some_n : page ≢ 0 = (let above = ready.inside.0 in λ z. omega arith) in record {
-      goes = goes_on (s.number + 1) (s.number + 1) c e f (omega arith) end.goes (grown_goes (s.number + 1) e f (after_more b s.number page) (next_of (here b s) page) (omega arith) link (rest_more b s.number page) (grown_back e.account b (after_more b s.number page) (next_of (here b s) page) refl (grown_more b s page less some_n)));
+      goes = goes_on (s.number + 1) (s.number + 1) c e f (omega arith) end.goes (grown_goes (s.number + 1) e f (after_more b s.number page) (next_of (here b s) page) (omega arith) link (rest_more b s.number page) (lists_more b s.number page) (grown_back e.account b (after_more b s.number page) (next_of (here b s) page) refl (grown_more b s page less some_n)));
       number = ap (λ (x : Stop). x.number) is;
       seeking = seeks_next k b f.account s next depth rank page t w (seeks_same k e.account b depth t refl refl g) (ap (λ (x : Seated). x.account) link) some_n ready.inside is;
     }
@@ -260,10 +260,10 @@ inner_lost k c d e f g s next depth rank word found page header t h load none re
     let end = at_end_of k c d e s path rank word page header (get_or t.codes depth 0) false (whole k c.account s path rank false h.at) load none ready in
     let x = end_seeks k c d e s depth rank word page header (get_or t.codes depth 0) t h load none ready in
     let less = whole_less k e.account s path rank false end.whole_page in
-    let goes_f = goes_on (s.number + 1) (s.number + 1) c e f (omega arith) end.goes (grown_goes (s.number + 1) e f (after_more e.account s.number found) (next_of (here e.account s) found) (omega arith) link (rest_more e.account s.number found) (grown_more e.account s found less some_n)) in
+    let goes_f = goes_on (s.number + 1) (s.number + 1) c e f (omega arith) end.goes (grown_goes (s.number + 1) e f (after_more e.account s.number found) (next_of (here e.account s) found) (omega arith) link (rest_more e.account s.number found) (lists_more e.account s.number found) (grown_more e.account s found less some_n)) in
     let seeking_f = seeks_next k e.account f.account s next depth rank found t end.whole_page x (ap (λ (x : Seated). x.account) link) some_n inside is in
     subst (λ (y : Seated). IsNext k c y s next depth rank t) (sym keep) record {
-      goes = record { table = goes_f.table; shape = goes_f.shape; rest = goes_f.rest; longer = goes_f.longer; stays = goes_f.stays };
+      goes = record { table = goes_f.table; shape = goes_f.shape; rest = goes_f.rest; grows = goes_f.grows; longer = goes_f.longer; stays = goes_f.stays };
       number = ap (λ (x : Stop). x.number) is;
       seeking = seeking_f;
     }
@@ -273,6 +273,9 @@ inner_lost k c d e f g s next depth rank word found page header t h load none re
 pub more_pool : (a : Account) (j n : ℕ) → (after_more a j n).pool ≡ a.pool
 more_pool a j zero = refl
 more_pool a j (suc n) = refl
+
+pub more_stocked : (c d : Seated) (j n : ℕ) → IsStocked c → d ≡ with_account c (after_more c.account j n) → IsStocked d
+more_stocked c d j n s load = subst IsStocked (sym load) (subst (λ (p : PoolAccount). IsStocked (with_account c (record (after_more c.account j n) { pool = p }))) (sym (more_pool c.account j n)) record { own = s.own; size = s.size; clean = s.clean })
 
 pub won_stocked : (k : Shape) (d e f : Seated) (s : Stop) (page header first : ℕ) → IsReady k d e page header first → f ≡ with_account e (after_more (after_inner e.account page) s.number page) → IsStocked f
 won_stocked k d e f s page header first ready link = stocked_without e f page ready.but (ap (λ (x : Seated). x.stock) link)

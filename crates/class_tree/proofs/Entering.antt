@@ -12,6 +12,7 @@ use Rattle.class_tree.specs.declared.walks.Stop.{Stop}
 use Rattle.class_tree.specs.declared.walks.Target.{Target}
 use Rattle.class_tree.specs.Walking.{here, Rest, rest_of, IsTarget, IsAtLeaf, Goes, Reads, Places, EntersRow}
 use Rattle.class_tree.proofs.Pages.{here_slot, size_slot, slot_again, target_kept, within, at_slot}
+use Rattle.class_tree.proofs.Loadings.{lists_of, grows_on, grows_equal}
 
 -- the row may be placed below its first codes
 pub to_place : (k : Shape) (a : Account) (t : Target) (depth : ℕ) → IsTarget k a t → IsToPlace k a (take depth t.codes) t.row
@@ -38,7 +39,7 @@ may_enter k c d s depth rank known word t h room e none =
 pub entered : (c d e : Seated) (s : Stop) (word : ℕ) (row : Row) → d ≡ with_account c (after_slot c.account s.number word) → e ≡ with_account d (after_entry d.account s.number row) → EntersRow c e row
 entered c d e s word row first then =
     let both : e ≡ with_account c (after_entry (after_slot c.account s.number word) s.number row) = then ∙ ap (λ (x : Seated). with_account x (after_entry x.account s.number row)) first in
-    subst (λ (x : Seated). EntersRow c x row) (sym both) record { places = record { table = refl; shape = refl; rest = refl }; pool = refl; stock = refl }
+    subst (λ (x : Seated). EntersRow c x row) (sym both) record { places = record { table = refl; shape = refl; rest = refl; grows = grows_equal c.account (after_entry (after_slot c.account s.number word) s.number row) refl }; pool = refl; stock = refl }
 
 pub entry_read : (k : Shape) (c d e : Seated) (s : Stop) (depth rank known word n : ℕ) (t : Target) → IsAtLeaf k c.account s depth rank known t → d ≡ with_account c (after_slot c.account s.number word) → word ≡ 0 → e ≡ with_account d (after_slot d.account s.number n) → n ≢ 0 → e ≡ with_account c (after_slot c.account s.number n)
 entry_read k c d e s depth rank known word n t h first none then some_n =
@@ -61,6 +62,7 @@ goes_places n c d e row g p = record {
   table = p.table ∙ g.table;
   shape = p.shape ∙ g.shape;
   rest = p.rest ∙ ap (λ (x : Rest). record x { placed = x.placed ++ row ∷ [] }) g.rest;
+  grows = grows_on c.account d.account e.account g.grows p.grows;
 }
 
 pub reads_enters : (n : ℕ) (c d e : Seated) (row : Row) → Reads c d n → EntersRow d e row → EntersRow c e row
@@ -69,6 +71,7 @@ reads_enters n c d e row r p = record {
     table = p.places.table ∙ ap (λ (x : Seated). x.table) r.only;
     shape = p.places.shape ∙ ap (λ (x : Seated). x.shape) r.only;
     rest = p.places.rest ∙ ap (λ (x : Seated). record (rest_of x.account) { placed = x.account.tree.placed ++ row ∷ [] }) r.only;
+    grows = grows_on c.account d.account e.account (grows_equal c.account d.account (ap (λ (x : Seated). lists_of x.account) r.only)) p.places.grows;
   };
   pool = p.pool ∙ ap (λ (x : Seated). x.account.pool) r.only;
   stock = p.stock ∙ ap (λ (x : Seated). x.stock) r.only;

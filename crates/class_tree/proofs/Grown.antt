@@ -15,6 +15,7 @@ use Rattle.board.specs.Seated.{Seated, with_account}
 use Rattle.class_tree.specs.declared.walks.Stop.{Stop}
 use Rattle.class_tree.specs.Walking.{here, rest_of, Shown, shown_of, AreHigh, IsFresh, IsAt, Goes}
 use Rattle.class_tree.proofs.Pages.{visited_before, visited_last}
+use Rattle.class_tree.proofs.Loadings.{lists_of, grows_same, grows_on, grows_equal}
 
 -- ---- the same pages, of which the same is shown
 
@@ -91,12 +92,12 @@ grown_high a b z depth g new h j less inner = dite (ℕ_discrete j (length a.tre
     (λ other. let before : j < length a.tree.reached = (let size = g.size in omega arith) in high_if depth (visited b.tree.reached j) (visited a.tree.reached j) (g.shown j before) (h j before) inner)
 
 -- the walk goes on to the new page
-pub grown_at : (k : Shape) (a b : Account) (s next : Stop) (z : Reached) → Grown a b z → 0 < b.pool.announced → IsPage k next.page → length a.tree.reached ≡ s.number + 1 → next.number ≡ s.number + 1 → z.page ≡ next.page → z.slots ≡ [] → z.more ≡ Unread → z.zero ≡ false → IsAt k b next z.path z.rank z.leaf 0
-grown_at k a b s next z g pinned inside last number page none unread not_zero =
-    let e : here b next ≡ z = ap (visited b.tree.reached) (number ∙ sym last) ∙ g.last in record {
+pub grown_at : (k : Shape) (a b : Account) (next : Stop) (z : Reached) → Grown a b z → 0 < b.pool.announced → IsPage k next.page → next.number ≡ length a.tree.reached → z.page ≡ next.page → z.slots ≡ [] → z.more ≡ Unread → z.zero ≡ false → IsAt k b next z.path z.rank z.leaf 0
+grown_at k a b next z g pinned inside number page none unread not_zero =
+    let e : here b next ≡ z = ap (visited b.tree.reached) number ∙ g.last in record {
       pinned = pinned;
       inside = inside;
-      last = g.size ∙ (ap (λ (n : ℕ). n + 1) (last ∙ sym number));
+      last = g.size ∙ ap (λ (n : ℕ). n + 1) (sym number);
       there = ap (λ (x : Reached). x.page) e ∙ page;
       on = ap (λ (x : Reached). x.path) e;
       at = ap (λ (x : Reached). x.rank) e;
@@ -116,20 +117,29 @@ pub rest_link : (a : Account) (j i c n : ℕ) (leaf : Bool) → rest_of (after_l
 rest_link a j i c zero leaf = refl
 rest_link a j i c (suc n) leaf = refl
 
+pub lists_more : (a : Account) (j n : ℕ) → lists_of (after_more a j n) ≡ lists_of a
+lists_more a j zero = refl
+lists_more a j (suc n) = refl
+
+pub lists_link : (a : Account) (j i c n : ℕ) (leaf : Bool) → lists_of (after_link a j i c n leaf) ≡ lists_of a
+lists_link a j i c zero leaf = refl
+lists_link a j i c (suc n) leaf = refl
+
 pub goes_same : (n : ℕ) (c : Seated) → Goes n c c
-goes_same n c = record { table = refl; shape = refl; rest = refl; longer = omega arith; stays = λ j less. refl }
+goes_same n c = record { table = refl; shape = refl; rest = refl; grows = grows_same c.account; longer = omega arith; stays = λ j less. refl }
 
 pub goes_on : (n m : ℕ) (c d e : Seated) → n ≤ m → Goes n c d → Goes m d e → Goes n c e
 goes_on n m c d e most first then = record {
   table = then.table ∙ first.table;
   shape = then.shape ∙ first.shape;
   rest = then.rest ∙ first.rest;
+  grows = grows_on c.account d.account e.account first.grows then.grows;
   longer = (let a = first.longer in let b = then.longer in omega arith);
   stays = λ j less. then.stays j (omega arith) ∙ first.stays j less;
 }
 
-pub shown_goes : (n : ℕ) (c d : Seated) (b : Account) → d ≡ with_account c b → rest_of b ≡ rest_of c.account → SameShown c.account b → Goes n c d
-shown_goes n c d b e rest s = subst (Goes n c) (sym e) record { table = refl; shape = refl; rest = rest; longer = (let size = s.size in omega arith); stays = λ j less. s.shown j }
+pub shown_goes : (n : ℕ) (c d : Seated) (b : Account) → d ≡ with_account c b → rest_of b ≡ rest_of c.account → lists_of b ≡ lists_of c.account → SameShown c.account b → Goes n c d
+shown_goes n c d b e rest lists s = subst (Goes n c) (sym e) record { table = refl; shape = refl; rest = rest; grows = grows_equal c.account b lists; longer = (let size = s.size in omega arith); stays = λ j less. s.shown j }
 
-pub grown_goes : (n : ℕ) (c d : Seated) (b : Account) (z : Reached) → n ≤ length c.account.tree.reached → d ≡ with_account c b → rest_of b ≡ rest_of c.account → Grown c.account b z → Goes n c d
-grown_goes n c d b z most e rest g = subst (Goes n c) (sym e) record { table = refl; shape = refl; rest = rest; longer = (let size = g.size in omega arith); stays = λ j less. g.shown j (omega arith) }
+pub grown_goes : (n : ℕ) (c d : Seated) (b : Account) (z : Reached) → n ≤ length c.account.tree.reached → d ≡ with_account c b → rest_of b ≡ rest_of c.account → lists_of b ≡ lists_of c.account → Grown c.account b z → Goes n c d
+grown_goes n c d b z most e rest lists g = subst (Goes n c) (sym e) record { table = refl; shape = refl; rest = rest; grows = grows_equal c.account b lists; longer = (let size = g.size in omega arith); stays = λ j less. g.shown j (omega arith) }

@@ -9,3 +9,10 @@ mod Entering
 mod Leaves
 mod Behind
 mod Begun
+mod Loadings
+mod Pairs
+mod Takings
+mod Reading
+mod Filling
+mod Splitting
+mod Exchanging

@@ -1,5 +1,5 @@
 -- The search along an inner chain: which pages were full, and what a full chain is.
-use Rattle.std.proofs.Common.{◌≡◌, ℕ, ◌+◌, ◌-◌, ◌*◌, ◌<◌, ◌≤◌, Bool, false, List, [], ◌∷◌, ◌++◌, length, get_or, take, refl, sym, ap, ◌∙◌, subst, arith, length-append, append_assoc}
+use Rattle.std.proofs.Common.{inl, ◌≡◌, ℕ, ◌+◌, ◌-◌, ◌*◌, ◌<◌, ◌≤◌, Bool, false, List, [], ◌∷◌, ◌++◌, length, get_or, take, refl, sym, ap, ◌∙◌, subst, arith, length-append, append_assoc}
 use Rattle.std.proofs.Math.ListN.{get_or-append}
 use Rattle.std.proofs.Math.Seq.{get_or-append_seam}
 use mathlib.Core.Logic.{dite}
@@ -17,7 +17,7 @@ use Rattle.board_core.specs.Histories.{history_of}
 use Rattle.board_core.specs.Steps.{AreTrue}
 use Rattle.board_core.proofs.Lists.{each_none, each_cons}
 use Rattle.board_core.specs.ClassTree.{page_room}
-use Rattle.board_core.specs.After.{visited, noted, after_answer}
+use Rattle.board_core.specs.After.{visited, noted, after_answer, after_more, after_link}
 use Rattle.board_core.proofs.PageLoads.{at_visit}
 use Rattle.board.specs.Seated.{Place, Seated, IsOf, IsLoader, number_in, with_account}
 use Rattle.class_tree.specs.declared.insert.InsertError.{InsertError}
@@ -25,22 +25,24 @@ use Rattle.class_tree.specs.declared.insert.InsertError.TheVariants.{NoPage, Cha
 use Rattle.class_tree.specs.declared.walks.Stop.{Stop}
 use Rattle.class_tree.specs.declared.walks.Target.{Target}
 use Rattle.class_tree.specs.Inserting.{IsStocked, IsNowhere, WasFull, HasFullChain}
-use Rattle.class_tree.specs.Refusing.{Answers, WasRefused, WasFullChain, Stops}
+use Rattle.class_tree.specs.Refusing.{Answers, WasRefused, LacksPages, WasFullChain, Stops}
 use Rattle.class_tree.specs.Walking.{here, Rest, rest_of, Shown, shown_of, IsAt, IsSeeking, HasCode, IsDown, Goes, Reads, IsNext, IsFound, WasFullAt, AreFull}
 use Rattle.class_tree.proofs.Finding.{absent, below_code}
-use Rattle.class_tree.proofs.Grown.{goes_on, goes_same}
+use Rattle.class_tree.proofs.Grown.{goes_on, goes_same, rest_more, rest_link, lists_more, lists_link}
 use Rattle.class_tree.proofs.Chain.{depth_is}
+use Rattle.class_tree.proofs.Loadings.{lists_of, grows_on, grows_equal}
 
 -- ---- from one part of a walk to the next
 
 pub goes_less : (n m : ℕ) (c d : Seated) → n ≤ m → Goes m c d → Goes n c d
-goes_less n m c d most g = record { table = g.table; shape = g.shape; rest = g.rest; longer = g.longer; stays = λ j less. g.stays j (omega arith) }
+goes_less n m c d most g = record { table = g.table; shape = g.shape; rest = g.rest; grows = g.grows; longer = g.longer; stays = λ j less. g.stays j (omega arith) }
 
 pub reads_goes : (n : ℕ) (c d : Seated) → Reads c d n → Goes n c d
 reads_goes n c d r = record {
   table = ap (λ (x : Seated). x.table) r.only;
   shape = ap (λ (x : Seated). x.shape) r.only;
   rest = ap (λ (x : Seated). rest_of x.account) r.only;
+  grows = grows_equal c.account d.account (ap (λ (x : Seated). lists_of x.account) r.only);
   longer = (let size = r.size in omega arith);
   stays = λ j less. ap shown_of (r.others j (λ e. omega arith));
 }
@@ -61,17 +63,57 @@ answers_on n c d e x g a = record {
   table = a.table ∙ g.table;
   shape = a.shape ∙ g.shape;
   loads = a.loads;
+  grows = grows_on c.account d.account e.account g.grows a.grows;
   rest = a.rest ∙ ap (λ (r : Rest). record r { entries = r.entries ++ noted a.loads (x ∷ []) }) g.rest;
 }
 
-pub refused_on : (k : Shape) (n : ℕ) (c d e : Seated) → Goes n c d → WasRefused k d e → WasRefused k c e
-refused_on k n c d e g r = record { answers = answers_on n c d e PageWanted g r.answers; before = r.before; empty = r.empty; refused = r.refused; none = r.none }
+-- nothing that a walk keeps was changed before
+pub answers_after : (c d e : Seated) (x : Entry) → d.table ≡ c.table → d.shape ≡ c.shape → rest_of d.account ≡ rest_of c.account → lists_of d.account ≡ lists_of c.account → Answers d e x → Answers c e x
+answers_after c d e x table shape rest lists a = record {
+  table = a.table ∙ table;
+  shape = a.shape ∙ shape;
+  loads = a.loads;
+  grows = grows_on c.account d.account e.account (grows_equal c.account d.account lists) a.grows;
+  rest = a.rest ∙ ap (λ (r : Rest). record r { entries = r.entries ++ noted a.loads (x ∷ []) }) rest;
+}
+
+pub more_refused : (k : Shape) (c d e : Seated) (j word need : ℕ) → d ≡ with_account c (after_more c.account j word) → WasRefused k d e need → WasRefused k c e need
+more_refused k c d e j word need load r = record {
+  answers = answers_after c d e PageWanted (ap (λ (x : Seated). x.table) load) (ap (λ (x : Seated). x.shape) load) (ap (λ (x : Seated). rest_of x.account) load ∙ rest_more c.account j word) (ap (λ (x : Seated). lists_of x.account) load ∙ lists_more c.account j word) r.answers;
+  before = r.before;
+  empty = r.empty;
+  after = r.after;
+  refused = r.refused;
+  end = r.end;
+  short = r.short;
+}
+
+pub link_refused : (k : Shape) (c d e : Seated) (j i code word need : ℕ) → (leaf : Bool) × (d ≡ with_account c (after_link c.account j i code word leaf)) → WasRefused k d e need → WasRefused k c e need
+link_refused k c d e j i code word need (leaf, load) r = record {
+  answers = answers_after c d e PageWanted (ap (λ (x : Seated). x.table) load) (ap (λ (x : Seated). x.shape) load) (ap (λ (x : Seated). rest_of x.account) load ∙ rest_link c.account j i code word leaf) (ap (λ (x : Seated). lists_of x.account) load ∙ lists_link c.account j i code word leaf) r.answers;
+  before = r.before;
+  empty = r.empty;
+  after = r.after;
+  refused = r.refused;
+  end = r.end;
+  short = r.short;
+}
+
+pub refused_on : (k : Shape) (n : ℕ) (c d e : Seated) (need : ℕ) → Goes n c d → WasRefused k d e need → WasRefused k c e need
+refused_on k n c d e need g r = record { answers = answers_on n c d e PageWanted g r.answers; before = r.before; empty = r.empty; after = r.after; refused = r.refused; end = r.end; short = r.short }
+
+-- one page was needed
+pub lacks_one : (k : Shape) (n : ℕ) (c d e : Seated) (row : Row) → Goes n c d → WasRefused k d e 1 → LacksPages k c e row
+lacks_one k n c d e row g r = record { need = 1; refused = refused_on k n c d e 1 g r; needed = inl refl }
+
+pub lacks_on : (k : Shape) (n : ℕ) (c d e : Seated) (row : Row) → Goes n c d → LacksPages k d e row → LacksPages k c e row
+lacks_on k n c d e row g l = record { need = l.need; refused = refused_on k n c d e l.need g l.refused; needed = l.needed }
 
 pub chain_on : (k : Shape) (n : ℕ) (c d e : Seated) (row : Row) (pages : ℕ) → Goes n c d → WasFullChain k d e row pages → WasFullChain k c e row pages
 chain_on k n c d e row pages g r = record { answers = answers_on n c d e (ChainWasFull pages) g r.answers; all = r.all; middle = r.middle; chain = r.chain; after = r.after }
 
 pub stops_on : (k : Shape) (n : ℕ) (c d e : Seated) (row : Row) (x : InsertError) → Goes n c d → Stops k d e row x → Stops k c e row x
-stops_on k n c d e row NoPage g s = refused_on k n c d e g s
+stops_on k n c d e row NoPage g s = lacks_on k n c d e row g s
 stops_on k n c d e row (ChainFull pages) g s = chain_on k n c d e row pages g s
 
 -- ---- full pages
@@ -159,6 +201,7 @@ chain_refused k n c d e row g full after = chain_on k n c d e row k.chain g reco
     table = ap (λ (x : Seated). x.table) after;
     shape = ap (λ (x : Seated). x.shape) after;
     loads = d.account.loads;
+    grows = grows_equal d.account e.account (ap (λ (x : Seated). lists_of x.account) after);
     rest = ap (λ (x : Seated). rest_of x.account) after;
   };
   all = refl;
@@ -202,7 +245,7 @@ along_next k c d e f first s next depth rank t h reads seven n = record {
 pub along_read : (k : Shape) (c d e : Seated) (first s : Stop) (depth rank : ℕ) (t : Target) → IsAlong k c d first s depth rank t → Reads d e s.number → Goes 0 c e
 along_read k c d e first s depth rank t h reads = goes_on 0 0 c d e (omega arith) h.goes (goes_less 0 s.number d e (omega arith) (reads_goes s.number d e reads))
 
-pub along_found : (k : Shape) (c d e : Seated) (first s : Stop) (depth rank index : ℕ) (t : Target) → IsAlong k c d first s depth rank t → Reads d e s.number → HasCode k e.account (record { stop = s; index = index }) depth t → first.number ≤ 65536 * depth → rank < 65536 → IsFound k c e (record { stop = s; index = index }) depth t
+pub along_found : (k : Shape) (c d e : Seated) (first s : Stop) (depth rank index : ℕ) (t : Target) → IsAlong k c d first s depth rank t → Reads d e s.number → HasCode k e.account (record { stop = s; index = index }) depth t → first.number ≤ 65537 * depth → rank < 65536 → IsFound k c e (record { stop = s; index = index }) depth t
 along_found k c d e first s depth rank index t h reads code low less = record {
   goes = along_read k c d e first s depth rank t h reads;
   code = code;

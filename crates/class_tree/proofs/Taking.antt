@@ -17,10 +17,11 @@ use Rattle.page_pool.specs.Taking.{all_passed, HasScanned, HasFound, IsGiven, Is
 use Rattle.page_pool.proofs.Passing.{risen_is}
 use Rattle.page_pool.proofs.Giving.{found_stock}
 use Rattle.class_tree.specs.Inserting.{IsStocked}
-use Rattle.class_tree.specs.Walking.{Rest, rest_of, shown_of}
+use Rattle.class_tree.specs.Walking.{Rest, rest_of, shown_of, Goes}
 use Rattle.class_tree.specs.Stocked.{IsStockedBut, HasMade, IsReady}
 use Rattle.class_tree.specs.Refusing.{WasRefused}
 use Rattle.class_tree.proofs.Making.{made_all}
+use Rattle.class_tree.proofs.Loadings.{lists_of, grows_on, grows_equal, given_grows, refused_grows}
 
 -- all that the pool leaves alone: its own numbers and own pages are no part of it
 abbrev Walk : Type 0
@@ -66,7 +67,7 @@ found_takes k c d page f =
       clean = λ clean. ap (λ (x : Seated). x.account.pool.parted) f.after ∙ (ap (λ (x : Seated). x.account.pool.parted) f.taken.after ∙ scanned_clean k c f.middle f.scanned clean);
     }
 
-given_takes : (k : Shape) (c d : Seated) (page : ℕ) → IsGiven k c d page → Takes c d
+pub given_takes : (k : Shape) (c d : Seated) (page : ℕ) → IsGiven k c d page → Takes c d
 given_takes k c d page g = ⊎_elim
     (λ (t : (d ≡ with_stock c d.stock) × (c.stock ≡ d.stock ++ page ∷ [])). record {
       table = ap (λ (x : Seated). x.table) t.0;
@@ -76,6 +77,21 @@ given_takes k c d page g = ⊎_elim
     })
     (λ (t : (c.stock ≡ []) × HasFound k c d page). found_takes k c d page t.1)
     g.from
+
+pub given_reached : (k : Shape) (c d : Seated) (page : ℕ) → IsGiven k c d page → d.account.tree.reached ≡ c.account.tree.reached
+given_reached k c d page g = ap (λ (x : Walk). x.1) (given_takes k c d page g).walk
+
+pub given_goes : (k : Shape) (c d : Seated) (page n : ℕ) → IsGiven k c d page → Goes n c d
+given_goes k c d page n g =
+    let t = given_takes k c d page g in
+    let reached = given_reached k c d page g in record {
+      table = t.table;
+      shape = t.shape;
+      rest = ap (λ (x : Walk). x.0) t.walk;
+      grows = given_grows k c d page g;
+      longer = (let same = ap length reached in omega arith);
+      stays = λ j _. ap (λ (l : List Reached). shown_of (visited l j)) reached;
+    }
 
 no_stock : (l : List ℕ) (q : ℕ) → l ≡ [] → IsAmong l q → ⊥
 no_stock l q none (i, there) = some-ne-none q (sym there ∙ ap (λ (x : List ℕ). get_elem? x i) none)
@@ -115,6 +131,7 @@ is_ready k c d e page header first s inside g m =
         table = ap (λ (x : Seated). x.table) m.after ∙ taken.table;
         shape = ap (λ (x : Seated). x.shape) m.after ∙ taken.shape;
         rest = ap (λ (x : Walk). x.0) walk;
+        grows = grows_on c.account d.account e.account (given_grows k c d page g) (grows_equal d.account e.account (ap (λ (x : Seated). lists_of x.account) m.after));
         longer = (let same = ap length reached in omega arith);
         stays = λ j _. ap (λ (l : List Reached). shown_of (visited l j)) reached;
       };
@@ -132,7 +149,7 @@ is_ready k c d e page header first s inside g m =
 
 -- ---- no page
 
-pub was_refused : (k : Shape) (c d : Seated) → c.stock ≡ [] → IsRefused k c d → WasRefused k c d
+pub was_refused : (k : Shape) (c d : Seated) → c.stock ≡ [] → IsRefused k c d → WasRefused k c d 1
 was_refused k c d empty r =
     let place = scanned_place k c r.middle r.scanned in
     let walk : walk_of r.last.account ≡ walk_of c.account = ap (λ (x : Seated). walk_of x.account) r.looked.after ∙ scanned_walk k c r.middle r.scanned in record {
@@ -140,17 +157,26 @@ was_refused k c d empty r =
         table = ap (λ (x : Seated). x.table) r.after ∙ (ap (λ (x : Seated). x.table) r.looked.after ∙ place.0);
         shape = ap (λ (x : Seated). x.shape) r.after ∙ (ap (λ (x : Seated). x.shape) r.looked.after ∙ place.1);
         loads = r.last.account.loads;
+        grows = refused_grows k c d r;
         rest = ap (λ (x : Seated). rest_of x.account) r.after ∙ ap (λ (x : Walk). record x.0 { entries = x.0.entries ++ noted r.last.account.loads (NoPage ∷ []) }) walk;
       };
       before = c;
       empty = empty;
+      after = d;
       refused = r;
-      none = r.stock ∙ empty;
+      end = refl;
+      short = (let none = ap length (r.stock ∙ empty) in omega arith);
     }
+
+pub refused_reached : (k : Shape) (c d : Seated) → IsRefused k c d → d.account.tree.reached ≡ c.account.tree.reached
+refused_reached k c d r = ap (λ (x : Seated). x.account.tree.reached) r.after ∙ (ap (λ (x : Seated). x.account.tree.reached) r.looked.after ∙ ap (λ (x : Walk). x.1) (scanned_walk k c r.middle r.scanned))
+
+pub refused_clean : (k : Shape) (c d : Seated) → IsRefused k c d → c.account.pool.parted ≡ [] → d.account.pool.parted ≡ []
+refused_clean k c d r clean = ap (λ (x : Seated). x.account.pool.parted) r.after ∙ (ap (λ (x : Seated). x.account.pool.parted) r.looked.after ∙ scanned_clean k c r.middle r.scanned clean)
 
 pub refused_stocked : (k : Shape) (c d : Seated) → IsStocked c → IsRefused k c d → IsStocked d
 refused_stocked k c d s r = record {
   own = λ q mine. subst (λ (l : List ℕ). IsAmong l q) (sym r.stock) (s.own q (let same = ap (owns q) r.own in omega arith));
   size = (let same = ap length r.stock in let size = s.size in omega arith);
-  clean = ap (λ (x : Seated). x.account.pool.parted) r.after ∙ (ap (λ (x : Seated). x.account.pool.parted) r.looked.after ∙ scanned_clean k c r.middle r.scanned s.clean);
+  clean = refused_clean k c d r s.clean;
 }

@@ -1,22 +1,25 @@
 -- What the insertion of a row does to its caller (this project's own).
-use Rattle.std.specs.Prelude.{◌≡◌, ℕ, ◌<◌, ◌≤◌, Bool, false, List, [], ◌∷◌, ◌++◌, length}
+use Rattle.std.specs.Prelude.{◌≡◌, ℕ, ◌+◌, ◌/◌, ◌<◌, ◌≤◌, ◌⊎◌, Bool, true, false, List, [], ◌∷◌, ◌++◌, length}
+use mathlib.Core.Option.{some}
+use lib.ListN.{get_elem?}
 use Rattle.htss_defs.specs.declared.shape.Shape.{Shape}
 use Rattle.board_core.specs.declared.account.Account.{Account}
 use Rattle.board_core.specs.declared.entry.Entry.{Entry}
 use Rattle.board_core.specs.declared.entry.Entry.TheVariants.{NoPage as PageWanted, ChainFull as ChainWasFull}
+use Rattle.board_core.specs.declared.loads.CodeLoad.{CodeLoad}
 use Rattle.board_core.specs.declared.loads.Loads.{Loads}
 use Rattle.board_core.specs.declared.room.Row.{Row}
 use Rattle.board_core.specs.declared.tree.Reached.{Reached}
-use Rattle.board_core.specs.Each.{In}
+use Rattle.board_core.specs.Each.{Each, In}
 use Rattle.board_core.specs.ClassTree.{IsBelow, page_room}
 use Rattle.board_core.specs.KnownPages.{IsMate}
-use Rattle.board_core.specs.Loaded.{HasOwn}
+use Rattle.board_core.specs.Loaded.{HasOwn, HasCode}
 use Rattle.board_core.specs.MarkRule.{IsAmong}
-use Rattle.board_core.specs.Rows.{own_codes}
+use Rattle.board_core.specs.Rows.{block_named, atom_named, own_codes}
 use Rattle.board_core.specs.After.{noted, after_answer, after_unpin}
-use Rattle.board.specs.Seated.{Seated, with_account}
+use Rattle.board.specs.Seated.{Seated, with_account, with_stock}
 use Rattle.page_pool.specs.Taking.{IsRefused}
-use Rattle.class_tree.specs.Loading.{code_loads}
+use Rattle.class_tree.specs.Loading.{code_loads, LoadsOn}
 use Rattle.class_tree.specs.declared.insert.InsertError.{InsertError}
 use Rattle.class_tree.specs.declared.insert.InsertError.TheVariants.{NoPage, ChainFull}
 
@@ -26,20 +29,20 @@ pub record IsStocked (c : Seated) : Type 0 where
   pub size : length c.stock ≤ 32
   pub clean : c.account.pool.parted ≡ []
 
--- what an insertion leaves, whatever it answers: the row is begun, its five codes were loaded, and the caller is unpinned. The log,
--- the region, and what was loaded of the log and of blocks are as they were
+-- what an insertion leaves, whatever it answers: the row is begun, its five codes were loaded first, and the caller is unpinned. The
+-- log, the region, and what was loaded of the log, of marks, names, atoms and bonds are as they were. All else that was loaded stays
 pub record HasBegun (k : Shape) (c d : Seated) (row : Row) : Type 0 where
   pub who : d.account.who ≡ c.account.who
   pub unpinned : d.account.pool.announced ≡ 0
   pub begun : d.account.tree.begun ≡ c.account.tree.begun ++ row ∷ []
-  pub codes : d.account.loads.codes ≡ c.account.loads.codes ++ code_loads row 0 (own_codes k c.account row)
+  pub codes : (j : ℕ) (x : CodeLoad) → get_elem? (c.account.loads.codes ++ code_loads row 0 (own_codes k c.account row)) j ≡ some x → get_elem? d.account.loads.codes j ≡ some x
   pub log : d.account.log ≡ c.account.log
   pub room : d.account.room ≡ c.account.room
   pub fronts : d.account.loads.fronts ≡ c.account.loads.fronts
   pub shown : d.account.loads.shown ≡ c.account.loads.shown
-  pub heads : d.account.loads.heads ≡ c.account.loads.heads
   pub marks : d.account.loads.marks ≡ c.account.loads.marks
   pub facts : d.account.loads.facts ≡ c.account.loads.facts
+  pub grows : LoadsOn c.account d.account
 
 -- the row is placed, and nothing is answered
 pub record HasPlaced (c d : Seated) (row : Row) : Type 0 where
@@ -52,15 +55,41 @@ pub record HasAnswered (c d : Seated) (e : Entry) : Type 0 where
   pub loads : Loads
   pub entries : d.account.entries ≡ c.account.entries ++ noted loads (e ∷ [])
 
--- a page was wanted while the stock was empty, and the pool refused it; then the caller was unpinned
-pub record WantsPage (k : Shape) (c d : Seated) : Type 0 where
+-- these are the next codes of a leaf's rows, as they were loaded, each once
+pub record AreNextCodes (a : Account) (x : Reached) (codes : List ℕ) : Type 0 where
+  pub once : (i j c : ℕ) → get_elem? codes i ≡ some c → get_elem? codes j ≡ some c → i ≡ j
+  pub from : Each (λ c. (n : ℕ) × In n x.slots × HasCode a (block_named n) (atom_named n) (length x.path) c) codes
+  pub all : Each (λ n. (c : ℕ) × In c codes × HasCode a (block_named n) (atom_named n) (length x.path) c) x.slots
+
+-- a full leaf above depth 5 on the row's walk needs so many pages for its split: a leaf for each next code of its rows, and an inner
+-- page for seven of them
+pub record NeedsPages (k : Shape) (a : Account) (row : Row) (need : ℕ) : Type 0 where
+  pub leaf : Reached
+  pub there : In leaf a.tree.reached
+  pub kind : leaf.leaf ≡ true
+  pub low : length leaf.path < 5
+  pub full : length leaf.slots ≡ 14
+  pub below : IsBelow leaf.path (own_codes k a row)
+  pub codes : List ℕ
+  pub next : AreNextCodes a leaf codes
+  pub pages : need ≡ length codes + (length codes + 6) / 7
+
+-- a new leaf, or a page behind a full one, needs one page
+abbrev pub IsNeeded : Shape → Account → Row → ℕ → Type 0
+IsNeeded k a row need = (need ≡ 1) ⊎ NeedsPages k a row need
+
+-- so many pages were needed. The pool refused one while the stock was empty; then pages that had been taken were kept again, which are
+-- fewer, and the caller was unpinned
+pub record WantsPage (k : Shape) (c d : Seated) (row : Row) : Type 0 where
   pub answered : HasAnswered c d PageWanted
   pub before : Seated
   pub empty : before.stock ≡ []
   pub after : Seated
   pub refused : IsRefused k before after
-  pub end : d ≡ with_account after (after_unpin after.account)
-  pub none : d.stock ≡ []
+  pub end : d ≡ with_account (with_stock after d.stock) (after_unpin after.account)
+  pub need : ℕ
+  pub needed : IsNeeded k after.account row need
+  pub short : length d.stock < need
 
 -- no page that was reached in the inner chain of this path shows the code
 abbrev pub IsNowhere : List Reached → List ℕ → ℕ → Type 0
@@ -91,5 +120,5 @@ pub record MetFullChain (k : Shape) (c d : Seated) (row : Row) (pages : ℕ) : T
 
 -- why a row was not inserted
 abbrev pub IsRefusal : Shape → Seated → Seated → Row → InsertError → Type 0
-IsRefusal k c d row NoPage = WantsPage k c d
+IsRefusal k c d row NoPage = WantsPage k c d row
 IsRefusal k c d row (ChainFull pages) = MetFullChain k c d row pages

@@ -4,3 +4,4 @@ pub mod Walking
 pub mod Stocked
 pub mod Refusing
 pub mod Linking
+pub mod Splitting

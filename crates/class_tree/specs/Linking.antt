@@ -1,14 +1,18 @@
 -- What a walk comes to behind a link, and in a chain of leaves (this project's own).
-use Rattle.std.specs.Prelude.{◌≡◌, ℕ, ◌+◌, ◌<◌, ◌≤◌, Bool, false, take, Option, Some, None}
+use Rattle.std.specs.Prelude.{◌≡◌, ◌≢◌, ℕ, ◌+◌, ◌<◌, ◌≤◌, Bool, true, false, take, length, slice_index, Option, Some, None}
+use mathlib.Core.Option.{some}
+use lib.ListN.{get_elem?}
 use Rattle.htss_defs.specs.declared.shape.Shape.{Shape}
 use Rattle.board_core.specs.declared.account.Account.{Account}
+use Rattle.board_core.specs.declared.tree.Link.TheVariants.{Unread}
+use Rattle.board_core.specs.Loaded.{IsPage}
 use Rattle.board.specs.Seated.{Seated}
 use Rattle.class_tree.specs.declared.link.Step.{Step}
 use Rattle.class_tree.specs.declared.link.Step.TheVariants.{Placed, Down}
 use Rattle.class_tree.specs.declared.walks.Stop.{Stop}
 use Rattle.class_tree.specs.declared.walks.Slot.{Slot}
 use Rattle.class_tree.specs.declared.walks.Target.{Target}
-use Rattle.class_tree.specs.Walking.{Goes, AreHigh, IsFresh, IsAt, IsTarget, IsDown, IsAtLeaf, Places}
+use Rattle.class_tree.specs.Walking.{here, Goes, AreHigh, IsFresh, IsAt, IsTarget, IsDown, IsAtLeaf, Places}
 
 -- the next leaf of the chain, of which nothing is known
 pub record IsNextLeaf (k : Shape) (c d : Seated) (s next : Stop) (depth rank : ℕ) (t : Target) : Type 0 where
@@ -21,40 +25,65 @@ abbrev pub GoesBehind : Shape → Seated → Seated → Stop → ℕ → ℕ →
 GoesBehind k c d s depth rank t None = Places c d t.row
 GoesBehind k c d s depth rank t (Some next) = IsNextLeaf k c d s next depth rank t
 
--- the walk stands behind a link, at a leaf or at the first page of an inner chain, of which nothing is known
-pub record IsBehind (k : Shape) (a : Account) (s : Stop) (depth : ℕ) (t : Target) : Type 0 where
-  pub leaf : Bool
-  pub at : IsAt k a s (take depth t.codes) 0 leaf 0
-  pub deep : depth ≤ 5
-  pub target : IsTarget k a t
-  pub fresh : leaf ≡ false → (code : ℕ) → IsFresh a (take depth t.codes) code
-  pub high : leaf ≡ false → AreHigh a depth
+-- the row's code of this depth stands in this slot of an inner page that was reached, and its link may be loaded
+pub record IsPair (k : Shape) (a : Account) (x : Slot) (depth : ℕ) (t : Target) : Type 0 where
+  pub pinned : 0 < a.pool.announced
+  pub inside : IsPage k x.stop.page
+  pub reached : x.stop.number < length a.tree.reached
+  pub there : (here a x.stop).page ≡ x.stop.page
+  pub on : (here a x.stop).path ≡ take depth t.codes
+  pub kind : (here a x.stop).leaf ≡ false
+  pub unread : (here a x.stop).more ≡ Unread
+  pub not_zero : (here a x.stop).zero ≡ false
+  pub room : x.index < 7
+  pub code : get_elem? (here a x.stop).slots x.index ≡ some (slice_index t.codes depth)
 
-pub record IsLed (k : Shape) (c d : Seated) (s next : Stop) (depth : ℕ) (t : Target) : Type 0 where
+-- the walk stands behind a link of this depth, at a leaf or at the first page of an inner chain, of which nothing is known
+pub record IsBehind (k : Shape) (a : Account) (x : Slot) (s : Stop) (depth : ℕ) (t : Target) : Type 0 where
+  pub leaf : Bool
+  pub at : IsAt k a s (take (depth + 1) t.codes) 0 leaf 0
+  pub deep : depth < 5
+  pub target : IsTarget k a t
+  pub fresh : leaf ≡ false → (code : ℕ) → IsFresh a (take (depth + 1) t.codes) code
+  pub high : leaf ≡ false → AreHigh a (depth + 1)
+  pub pair : IsPair k a x depth t
+  pub above : leaf ≡ true → AreHigh a depth
+  pub other : x.stop.number ≢ s.number
+
+pub record IsLed (k : Shape) (c d : Seated) (x : Slot) (next : Stop) (depth : ℕ) (t : Target) : Type 0 where
   pub goes : Goes 0 c d
-  pub number : next.number ≡ s.number + 1
-  pub behind : IsBehind k d.account next (depth + 1) t
+  pub number : next.number ≡ x.stop.number + 1
+  pub behind : IsBehind k d.account x next depth t
 
 -- the row was placed at the link, or the walk stands behind it
 abbrev pub GoesBelow : Shape → Seated → Seated → Slot → ℕ → Target → Option Stop → Type 0
 GoesBelow k c d x depth t None = Places c d t.row
-GoesBelow k c d x depth t (Some next) = IsLed k c d x.stop next depth t
+GoesBelow k c d x depth t (Some next) = IsLed k c d x next depth t
 
--- from behind a link the row was placed, or an inner chain is there, which goes on at a further depth
-pub record IsHigher (k : Shape) (c d : Seated) (s next : Stop) (depth : ℕ) (t : Target) : Type 0 where
-  pub same : d ≡ c
-  pub is : next ≡ s
+-- the walk stands at a full leaf of one level more, behind this link
+pub record IsBehindFull (k : Shape) (a : Account) (x : Slot) (s : Stop) (depth : ℕ) (t : Target) : Type 0 where
+  pub leaf : IsAtLeaf k a s (depth + 1) 0 14 t
+  pub low : depth + 1 < 5
+  pub pair : IsPair k a x depth t
+  pub above : AreHigh a depth
+  pub other : x.stop.number ≢ s.number
+
+-- the walk came to an inner chain of this depth, at this page or the one that was reached next
+pub record ComesIn (k : Shape) (c d : Seated) (s next : Stop) (depth : ℕ) (t : Target) : Type 0 where
+  pub goes : Goes 0 c d
+  pub number : next.number ≤ s.number + 1
   pub low : depth < 5
-  pub down : IsDown k d.account s depth t
+  pub down : IsDown k d.account next depth t
 
+-- from behind a link of this depth the row was placed, or an inner chain is there, which goes on at a further depth
 abbrev pub GoesOn : Shape → Seated → Seated → Stop → ℕ → Target → Step → Type 0
 GoesOn k c d s depth t Placed = Places c d t.row
-GoesOn k c d s depth t (Down next) = IsHigher k c d s next depth t
+GoesOn k c d s depth t (Down next) = ComesIn k c d s next (depth + 1) t
 
 -- the row was placed, or the walk came one level down
 pub record ComesDown (k : Shape) (c d : Seated) (s next : Stop) (depth : ℕ) (t : Target) : Type 0 where
   pub goes : Goes 0 c d
-  pub number : next.number ≡ s.number + 1
+  pub number : next.number ≤ s.number + 2
   pub low : depth + 1 < 5
   pub down : IsDown k d.account next (depth + 1) t
 

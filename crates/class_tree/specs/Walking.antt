@@ -7,7 +7,6 @@ use Rattle.board_core.specs.declared.account.Account.{Account}
 use Rattle.board_core.specs.declared.account.Who.{Who}
 use Rattle.board_core.specs.declared.entry.Noted.{Noted}
 use Rattle.board_core.specs.declared.log.LogAccount.{LogAccount}
-use Rattle.board_core.specs.declared.loads.CodeLoad.{CodeLoad}
 use Rattle.board_core.specs.declared.loads.ShownLoad.{ShownLoad}
 use Rattle.board_core.specs.declared.loads.WordLoad.{WordLoad}
 use Rattle.board_core.specs.declared.room.RoomAccount.{RoomAccount}
@@ -21,7 +20,7 @@ use Rattle.board_core.specs.Loaded.{IsPage, IsToPlace}
 use Rattle.board_core.specs.Rows.{entry_word, own_codes}
 use Rattle.board_core.specs.After.{visited}
 use Rattle.board.specs.Seated.{Seated, with_account}
-use Rattle.class_tree.specs.Loading.{code_loads}
+use Rattle.class_tree.specs.Loading.{code_loads, LoadsOn}
 use Rattle.class_tree.specs.declared.walks.Stop.{Stop}
 use Rattle.class_tree.specs.declared.walks.Slot.{Slot}
 use Rattle.class_tree.specs.declared.walks.Target.{Target}
@@ -41,10 +40,8 @@ pub record Rest : Type 0 where
   pub entries : List Noted
   pub fronts : List ℕ
   pub shown : List ShownLoad
-  pub heads : List WordLoad
   pub marks : List ShownLoad
   pub facts : List WordLoad
-  pub codes : List CodeLoad
 
 abbrev pub rest_of : Account → Rest
 rest_of a = record {
@@ -57,10 +54,8 @@ rest_of a = record {
   entries = a.entries;
   fronts = a.loads.fronts;
   shown = a.loads.shown;
-  heads = a.loads.heads;
   marks = a.loads.marks;
   facts = a.loads.facts;
-  codes = a.loads.codes;
 }
 
 -- what is known of a page apart from the words that lead on
@@ -84,6 +79,7 @@ pub record Goes (n : ℕ) (c d : Seated) : Type 0 where
   pub table : d.table ≡ c.table
   pub shape : d.shape ≡ c.shape
   pub rest : rest_of d.account ≡ rest_of c.account
+  pub grows : LoadsOn c.account d.account
   pub longer : length c.account.tree.reached ≤ length d.account.tree.reached
   pub stays : (j : ℕ) → j < n → shown_of (visited d.account.tree.reached j) ≡ shown_of (visited c.account.tree.reached j)
 
@@ -156,6 +152,7 @@ pub record Places (c d : Seated) (row : Row) : Type 0 where
   pub table : d.table ≡ c.table
   pub shape : d.shape ≡ c.shape
   pub rest : rest_of d.account ≡ record (rest_of c.account) { placed = c.account.tree.placed ++ row ∷ [] }
+  pub grows : LoadsOn c.account d.account
 
 -- only the page of this number was read on: its place is the same
 pub record Reads (c d : Seated) (number : ℕ) : Type 0 where
@@ -174,16 +171,14 @@ pub record IsNext (k : Shape) (c d : Seated) (s next : Stop) (depth rank : ℕ) 
 pub record IsFound (k : Shape) (c d : Seated) (x : Slot) (depth : ℕ) (t : Target) : Type 0 where
   pub goes : Goes 0 c d
   pub code : HasCode k d.account x depth t
-  pub number : x.stop.number < 65536 * (depth + 1)
+  pub number : x.stop.number < 65537 * depth + 65536
 
 -- the row was begun, and its five codes were loaded
 pub record Begins (k : Shape) (c d : Seated) (row : Row) : Type 0 where
   pub after : d ≡ with_account c d.account
   pub pool : d.account.pool ≡ c.account.pool
-  pub rest : rest_of d.account ≡ record (rest_of c.account) {
-    begun = c.account.tree.begun ++ row ∷ [];
-    codes = c.account.loads.codes ++ code_loads row 0 (own_codes k c.account row);
-  }
+  pub loads : d.account.loads ≡ record c.account.loads { codes = c.account.loads.codes ++ code_loads row 0 (own_codes k c.account row) }
+  pub rest : rest_of d.account ≡ record (rest_of c.account) { begun = c.account.tree.begun ++ row ∷ [] }
 
 -- the row was placed in a leaf, and own pages are as they were
 pub record EntersRow (c d : Seated) (row : Row) : Type 0 where

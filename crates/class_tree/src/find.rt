@@ -83,7 +83,7 @@ fn next_inner(
     ensures stocked { IsStocked caller.new }
     ensures next { MatchResult result
         (λ next. IsNext board.now.shape caller.old caller.new at next depth rank target.now)
-        (λ _. WasRefused board.now.shape caller.old caller.new) }
+        (λ _. WasRefused board.now.shape caller.old caller.new 1) }
 {
     let next = at.number + 1;
     let word = load_more(board, caller, at.page, at.number);
@@ -120,7 +120,7 @@ pub(crate) fn find_code(
     requires stocked { IsStocked caller.old }
     requires down { IsDown board.now.shape caller.old.account first depth target.now }
     requires deep { depth < 5 }
-    requires number { first.number ≤ 65536 * depth }
+    requires number { first.number ≤ 65537 * depth }
     ensures of { IsOf board.now caller.new }
     ensures loader { IsLoader caller.new }
     ensures stocked { IsStocked caller.new }

@@ -24,7 +24,7 @@ use std::marker::Brand;
 /// Why a row was not inserted.
 #[derive(Clone, Copy, Debug, PartialEq, Eq, Drop)]
 pub enum InsertError {
-    /// A page was wanted, the stock was empty, and the pool had none.
+    /// Pages were wanted, and the pool refused one while the stock was empty.
     NoPage,
     /// A chain on the row's walk has as many pages as the board's shape allows, and each is full.
     ChainFull { pages: u32 },
@@ -117,9 +117,9 @@ fn descend(
     unreachable!()
 }
 
-/// Puts a row of the caller's into the tree, below its five codes. It begins the row, takes no memory, waits for nobody, and loads
-/// each word of a chain once on its way: an exchange that another was faster at tells the word that stands there now, and the walk
-/// goes on from it.
+/// Puts a row of the caller's into the tree, below its five codes. It begins the row, takes no memory, waits for nobody, and walks no
+/// chain twice: an exchange that another was faster at tells the word that stands there now, and the walk goes on from it. It splits
+/// each full leaf above depth 5 that it comes to.
 pub fn insert_row(board: &Board, caller: &mut Caller, row: Row) -> Result<(), InsertError>
     requires fits { IsOf board.now caller.old }
     requires loader { IsLoader caller.old }

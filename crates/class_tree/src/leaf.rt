@@ -45,7 +45,7 @@ fn enter(
 }
 
 // Puts the row into a free entry of the leaf, and says whether it did. Else the leaf is full.
-fn fill_leaf(
+pub(crate) fn fill_leaf(
     board: &Board,
     caller: &mut Caller,
     at: Stop,
@@ -66,34 +66,33 @@ fn fill_leaf(
     false
 }
 
-// The leaf behind this one, which is full. Where there is none, one is made with the row.
+// The leaf behind this one, which is full and of the last depth. Where there is none, one is made with the row.
 fn next_leaf(
     board: &Board,
     caller: &mut Caller,
     at: Stop,
-    depth: u8,
     rank: u32,
     target: &Target,
 ) -> Result<Option<Stop>, NoPage>
     requires fits { IsOf board.now caller.old }
     requires loader { IsLoader caller.old }
     requires stocked { IsStocked caller.old }
-    requires leaf { IsAtLeaf board.now.shape caller.old.account at depth rank 14 target.now }
+    requires leaf { IsAtLeaf board.now.shape caller.old.account at 5 rank 14 target.now }
     requires rank { (rank + 1 < board.now.shape.chain) × (rank + 1 < 2 ^ 16) }
     requires number { at.number < 2 ^ 32 }
     ensures of { IsOf board.now caller.new }
     ensures loader { IsLoader caller.new }
     ensures stocked { IsStocked caller.new }
     ensures next { MatchResult result
-        (λ next. GoesBehind board.now.shape caller.old caller.new at depth rank target.now next)
-        (λ _. WasRefused board.now.shape caller.old caller.new) }
+        (λ next. GoesBehind board.now.shape caller.old caller.new at 5 rank target.now next)
+        (λ _. WasRefused board.now.shape caller.old caller.new 1) }
 {
     let next = at.number + 1;
     let word = load_more(board, caller, at.page, at.number);
     if word != 0 {
         return Ok(Some(stop_at(board, word, next)));
     }
-    let header = header_word(true, depth, rank + 1);
+    let header = header_word(true, 5, rank + 1);
     let own = match make_page(board, caller, header, target.entry) {
         Ok(own) => own,
         Err(none) => return Err(none),
@@ -106,19 +105,18 @@ fn next_leaf(
     Ok(Some(stop_at(board, found, next)))
 }
 
-// Puts the row into the chain of leaves that begins at this leaf.
+// Puts the row into the chain of leaves of the last depth that begins at this leaf.
 pub(crate) fn fill_chain(
     board: &Board,
     caller: &mut Caller,
     first: Stop,
-    depth: u8,
     target: &Target,
 ) -> Result<(), InsertError>
     requires fits { IsOf board.now caller.old }
     requires loader { IsLoader caller.old }
     requires stocked { IsStocked caller.old }
-    requires leaf { IsAtLeaf board.now.shape caller.old.account first depth 0 0 target.now }
-    requires number { first.number ≤ 65536 * depth }
+    requires leaf { IsAtLeaf board.now.shape caller.old.account first 5 0 0 target.now }
+    requires number { first.number ≤ 65537 * 5 }
     ensures of { IsOf board.now caller.new }
     ensures loader { IsLoader caller.new }
     ensures stocked { IsStocked caller.new }
@@ -127,16 +125,16 @@ pub(crate) fn fill_chain(
     let chain = board.shape().chain;
     let mut at = first;
     for rank in 0..chain - 1 {
-        if fill_leaf(board, caller, at, depth, rank, target) {
+        if fill_leaf(board, caller, at, 5, rank, target) {
             return Ok(());
         }
-        match next_leaf(board, caller, at, depth, rank, target) {
+        match next_leaf(board, caller, at, rank, target) {
             Ok(None) => return Ok(()),
             Ok(Some(next)) => at = next,
             Err(_) => return Err(InsertError::NoPage),
         }
     }
-    if fill_leaf(board, caller, at, depth, chain - 1, target) {
+    if fill_leaf(board, caller, at, 5, chain - 1, target) {
         return Ok(());
     }
     Err(refuse_chain(board, caller))

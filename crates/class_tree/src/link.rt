@@ -7,7 +7,8 @@ ghost use Rattle.class_tree.specs.Linking.{GoesBelow, GoesOn, FollowsTo, IsBehin
 ghost use Rattle.class_tree.specs.Refusing.{WasRefused, Stops};
 
 use crate::insert::InsertError;
-use crate::leaf::fill_chain;
+use crate::leaf::{fill_chain, fill_leaf};
+use crate::split::split_leaf;
 use crate::walks::{Slot, Stop, Target, header_word, make_page, stop_at};
 use board::{Board, Caller, link_leaf, load_header, load_link};
 use page_pool::{NoPage, keep};
@@ -37,7 +38,7 @@ fn reach(
     ensures stocked { IsStocked caller.new }
     ensures led { MatchResult result
         (λ next. GoesBelow board.now.shape caller.old caller.new slot depth target.now next)
-        (λ _. WasRefused board.now.shape caller.old caller.new) }
+        (λ _. WasRefused board.now.shape caller.old caller.new 1) }
 {
     let (at, index, code) = (slot.stop, slot.index, target.codes[depth as usize]);
     let next = at.number + 1;
@@ -60,10 +61,12 @@ fn reach(
     Ok(Some(stop_at(board, found, next)))
 }
 
-// Places the row in the chain of leaves that hangs at a link, or says that an inner chain does.
+// Places the row in the leaf that hangs at a link of this depth, or behind it where leaves chain. Else it comes to an inner chain:
+// one that hangs there, or that takes the full leaf's place.
 fn enter_child(
     board: &Board,
     caller: &mut Caller,
+    slot: Slot,
     at: Stop,
     depth: u8,
     target: &Target,
@@ -71,8 +74,8 @@ fn enter_child(
     requires fits { IsOf board.now caller.old }
     requires loader { IsLoader caller.old }
     requires stocked { IsStocked caller.old }
-    requires behind { IsBehind board.now.shape caller.old.account at depth target.now }
-    requires number { at.number ≤ 65536 * depth }
+    requires behind { IsBehind board.now.shape caller.old.account slot at depth target.now }
+    requires number { at.number ≤ 65537 * (depth + 1) }
     ensures of { IsOf board.now caller.new }
     ensures loader { IsLoader caller.new }
     ensures stocked { IsStocked caller.new }
@@ -82,9 +85,18 @@ fn enter_child(
     if load_header(board, caller, at.page, at.number) % 4 != 1 {
         return Ok(Step::Down(at));
     }
-    match fill_chain(board, caller, at, depth, target) {
-        Ok(()) => Ok(Step::Placed),
-        Err(e) => Err(e),
+    if depth == 4 {
+        return match fill_chain(board, caller, at, target) {
+            Ok(()) => Ok(Step::Placed),
+            Err(e) => Err(e),
+        };
+    }
+    if fill_leaf(board, caller, at, depth + 1, 0, target) {
+        return Ok(Step::Placed);
+    }
+    match split_leaf(board, caller, slot, at, depth, target) {
+        Ok(next) => Ok(Step::Down(next)),
+        Err(_) => Err(InsertError::NoPage),
     }
 }
 
@@ -100,7 +112,7 @@ pub(crate) fn follow(
     requires loader { IsLoader caller.old }
     requires stocked { IsStocked caller.old }
     requires code { HasCode board.now.shape caller.old.account slot depth target.now }
-    requires number { slot.stop.number < 65536 * (depth + 1) }
+    requires number { slot.stop.number < 65537 * depth + 65536 }
     ensures of { IsOf board.now caller.new }
     ensures loader { IsLoader caller.new }
     ensures stocked { IsStocked caller.new }
@@ -112,5 +124,5 @@ pub(crate) fn follow(
         Ok(None) => return Ok(Step::Placed),
         Err(_) => return Err(InsertError::NoPage),
     };
-    enter_child(board, caller, next, depth + 1, target)
+    enter_child(board, caller, slot, next, depth, target)
 }

@@ -93,7 +93,7 @@ pub(crate) fn make_page(
     ensures of { IsOf board.now caller.new }
     ensures loader { IsLoader caller.new }
     ensures ready { IfOk result (λ page. IsReady board.now.shape caller.old caller.new page header first) }
-    ensures refused { IfErr result (λ _. WasRefused board.now.shape caller.old caller.new) }
+    ensures refused { IfErr result (λ _. WasRefused board.now.shape caller.old caller.new 1) }
     ensures stocked { IfErr result (λ _. IsStocked caller.new) }
 {
     let own = match take(board, caller) {

@@ -6,7 +6,7 @@ ghost use Rattle.htss_defs.specs.Codes.{codes_at};
 ghost use Rattle.htss_defs.specs.Passes.{allows};
 ghost use Rattle.htss_defs.specs.Needs.{Covers};
 ghost use Rattle.env_code.specs.Coders.{IsCoder};
-ghost use Rattle.env_cover.specs.Reach.{Reaches};
+ghost use Rattle.env_cover.specs.Reach.{Reaches, CoversCode};
 ghost use Rattle.env_cover.specs.Cover.{HasAllowed};
 ghost use Rattle.env_cover.specs.Screening.{HasCover};
 
@@ -22,6 +22,17 @@ pub fn covers(need: &Need, codes: &Codes) -> bool
 {
     let lowest = codes.words[0].to_le_bytes()[0];
     allows_lane(need.test, lowest) && reach_all(&need.words, &codes.words)
+}
+
+/// Whether one code covers a need at its level, from 0 to 4.
+pub fn covers_code(need: &Need, level: u8, code: u64) -> bool
+    requires { level < 5 }
+    ensures { IsTrue result ↔ CoversCode need.now level code }
+{
+    if level == 0 && !allows_lane(need.test, code.to_le_bytes()[0]) {
+        return false;
+    }
+    reaches(need.words[level as usize], code)
 }
 
 /// Whether the codes of the atom at a place, from 1 to the number of atoms of the molecule that was

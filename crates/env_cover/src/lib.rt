@@ -6,6 +6,6 @@ mod law;
 mod needs;
 mod sure;
 
-pub use cover::{allows_some, covers, covers_atom, has_cover};
+pub use cover::{allows_some, covers, covers_atom, covers_code, has_cover};
 pub use law::law_of_cover;
 pub use needs::{Needs, need_of, pivot};

@@ -1,5 +1,5 @@
 -- The rows of a block, and what is left when the next of them was inserted or refused.
-use Rattle.std.proofs.Common.{◌≡◌, ◌≢◌, ℕ, zero, suc, ◌+◌, ◌<◌, ◌≤◌, List, [], ◌∷◌, ◌++◌, length, refl, sym, ap, ◌∙◌, subst, arith, ⊎_elim, append-nil}
+use Rattle.std.proofs.Common.{◌≡◌, ℕ, zero, suc, ◌+◌, ◌<◌, ◌≤◌, List, [], ◌∷◌, ◌++◌, length, refl, sym, ap, ◌∙◌, subst, arith, ⊎_elim, append-nil}
 use Rattle.std.proofs.lemmas.List.{append_assoc, length-append}
 use mathlib.Core.Option.{some, some-ne-none}
 use mathlib.Core.Logic.{dite}
@@ -10,18 +10,16 @@ use Rattle.board_core.specs.declared.account.Account.{Account}
 use Rattle.board_core.specs.declared.account.Who.{Who}
 use Rattle.board_core.specs.declared.entry.Entry.{Entry}
 use Rattle.board_core.specs.declared.entry.Noted.{Noted}
-use Rattle.board_core.specs.declared.loads.CodeLoad.{CodeLoad}
 use Rattle.board_core.specs.declared.loads.ShownLoad.{ShownLoad}
 use Rattle.board_core.specs.declared.loads.WordLoad.{WordLoad}
 use Rattle.board_core.specs.declared.log.LogAccount.{LogAccount}
 use Rattle.board_core.specs.declared.room.RoomAccount.{RoomAccount}
 use Rattle.board_core.specs.declared.room.Row.{Row}
-use Rattle.board_core.specs.declared.room.Sealed.{Sealed}
-use Rattle.board_core.specs.Each.{Each, In}
+use Rattle.board_core.specs.Each.{In}
 use Rattle.board_core.specs.Blocks.{atoms_in}
 use Rattle.board_core.specs.Loaded.{Grows}
 use Rattle.board_core.specs.RoomRule.{IsSealed}
-use Rattle.board_core.specs.Rows.{words_of, own_codes, RowFits, IsOwnRow}
+use Rattle.board_core.specs.Rows.{words_of, RowFits, IsOwnRow}
 use Rattle.board_core.specs.declared.entry.Entry.TheVariants.{NoPage as PageWanted, ChainFull as ChainWasFull}
 use Rattle.board_core.specs.After.{lengths_of, noted, after_answer, after_unpin}
 use Rattle.board_core.proofs.Grown.{grows_same, grows_trans}
@@ -29,7 +27,6 @@ use Rattle.board_core.proofs.Lists.{at_longer, at_last, at_end, each_append}
 use Rattle.board.specs.Seated.{Seated}
 use Rattle.class_tree.specs.declared.insert.InsertError.{InsertError}
 use Rattle.class_tree.specs.declared.insert.InsertError.TheVariants.{NoPage, ChainFull}
-use Rattle.class_tree.specs.Loading.{code_loads}
 use Rattle.class_tree.specs.Inserting.{HasBegun, HasPlaced, HasAnswered, IsRefusal}
 use Rattle.loader.specs.Stages.{rows_of, HasRows, WasStopped, told_of}
 
@@ -87,16 +84,16 @@ no_rows_yet a block unpinned = record {
   grows = grows_same a;
 }
 
-begun_grows : (k : Shape) (c d : Seated) (row : Row) → HasBegun k c d row → Grows c.account d.account
-begun_grows k c d row h = let seen : d.account.log.seen ≡ c.account.log.seen = ap (λ (x : LogAccount). x.seen) h.log in record {
+begun_grows : (k : Shape) (c d : Seated) (row : Row) (more : List Noted) → d.account.entries ≡ c.account.entries ++ more → HasBegun k c d row → Grows c.account d.account
+begun_grows k c d row more es h = let seen : d.account.log.seen ≡ c.account.log.seen = ap (λ (x : LogAccount). x.seen) h.log in record {
   seen = omega arith;
   shown = λ j x there. subst (λ (l : List ShownLoad). get_elem? l j ≡ some x) (sym h.shown) there;
-  heads = λ j x there. subst (λ (l : List WordLoad). get_elem? l j ≡ some x) (sym h.heads) there;
+  heads = h.grows.heads;
   marks = λ j x there. subst (λ (l : List ShownLoad). get_elem? l j ≡ some x) (sym h.marks) there;
   facts = λ j x there. subst (λ (l : List WordLoad). get_elem? l j ≡ some x) (sym h.facts) there;
   fronts = λ j x there. subst (λ (l : List ℕ). get_elem? l j ≡ some x) (sym h.fronts) there;
-  codes = λ j x there. subst (λ (l : List CodeLoad). get_elem? l j ≡ some x) (sym h.codes)
-      (at_longer c.account.loads.codes (code_loads row 0 (own_codes k c.account row)) j x there);
+  codes = h.grows.codes;
+  entries = λ j x there. subst (λ (l : List Noted). get_elem? l j ≡ some x) (sym es) (at_longer c.account.entries more j x there);
 }
 
 pub row_placed : (k : Shape) (a : Account) (c d : Seated) (block i : ℕ) → HasRows a c.account block i i [] → HasBegun k c d (row_at block i) → HasPlaced c d (row_at block i) → HasRows a d.account block (i + 1) (i + 1) []
@@ -108,7 +105,7 @@ row_placed k a c d block i rows begun placed = record {
   rows_begun = begun.begun ∙ (ap (λ (l : List Row). l ++ row_at block i ∷ []) rows.rows_begun ∙ one_more a.tree.begun block i);
   rows_placed = placed.placed ∙ (ap (λ (l : List Row). l ++ row_at block i ∷ []) rows.rows_placed ∙ one_more a.tree.placed block i);
   entries = placed.entries ∙ rows.entries;
-  grows = grows_trans a c.account d.account rows.grows (begun_grows k c d (row_at block i) begun);
+  grows = grows_trans a c.account d.account rows.grows (begun_grows k c d (row_at block i) [] (placed.entries ∙ sym (append-nil c.account.entries)) begun);
 }
 
 answered : (k : Shape) (c d : Seated) (row : Row) (e : InsertError) → IsRefusal k c d row e → HasAnswered c d (told_of e)
@@ -149,6 +146,6 @@ row_refused k o c d block atoms i e rows less begun refused =
         rows_begun = begun.begun ∙ (ap (λ (l : List Row). l ++ row_at block i ∷ []) rows.rows_begun ∙ one_more a.tree.begun block i);
         rows_placed = told.placed ∙ rows.rows_placed;
         entries = at_end_noted k c d (row_at block i) e refused ∙ ap (λ (l : List Noted). l ++ noted d.account.loads (told_of e ∷ [])) (rows.entries ∙ append-nil a.entries);
-        grows = grows_trans a c.account d.account rows.grows (begun_grows k c d (row_at block i) begun);
+        grows = grows_trans a c.account d.account rows.grows (begun_grows k c d (row_at block i) (noted d.account.loads (told_of e ∷ [])) (at_end_noted k c d (row_at block i) e refused) begun);
       };
     }

@@ -1,7 +1,5 @@
 -- A block that is written, with all its rows placed, is a staged record; what was staged before stays so.
-use Rattle.std.proofs.Common.{◌≡◌, ◌≢◌, ℕ, suc, ◌+◌, ◌-◌, ◌<◌, ◌≤◌, List, [], ◌∷◌, ◌++◌, length, refl, sym, ap, ◌∙◌, subst, arith, append-nil}
-use mathlib.Core.Option.{some}
-use lib.ListN.{get_elem?}
+use Rattle.std.proofs.Common.{◌≡◌, ℕ, suc, ◌+◌, ◌<◌, ◌≤◌, List, [], ◌∷◌, ◌++◌, length, refl, sym, ap, ◌∙◌, subst, arith, append-nil}
 use Rattle.htss_defs.specs.declared.shape.Shape.{Shape}
 use Rattle.htss_defs.specs.Molecule.{Molecule}
 use Rattle.board_core.specs.declared.account.Account.{Account}
@@ -9,22 +7,20 @@ use Rattle.board_core.specs.declared.account.Who.{Who}
 use Rattle.board_core.specs.declared.entry.Entry.{Entry}
 use Rattle.board_core.specs.declared.room.RoomAccount.{RoomAccount}
 use Rattle.board_core.specs.declared.room.Row.{Row}
-use Rattle.board_core.specs.declared.room.Sealed.{Sealed}
 use Rattle.board_core.specs.Each.{Each, In}
-use Rattle.board_core.specs.Blocks.{atoms_in, atom_of, atom_words_at, block_size, molecule_in, first_of}
+use Rattle.board_core.specs.Blocks.{atoms_in, atom_of, atom_words_at, first_of}
 use Rattle.board_core.specs.MarkRule.{IsAmong}
-use Rattle.board_core.specs.RoomRule.{IsSealed, region_of, own_block, store_of}
+use Rattle.board_core.specs.RoomRule.{IsSealed, own_block, store_of}
 use Rattle.board_core.specs.Rows.{words_of}
 use Rattle.board_core.specs.After.{after_answer}
-use Rattle.board_core.proofs.Lists.{at_longer, at_end}
+use Rattle.board_core.proofs.Lists.{at_longer}
 use Rattle.board_core.proofs.PageLoads.{in_left}
 use Rattle.board_core.proofs.Shown.{length_first}
 use Rattle.block_words.specs.Writing.{size_of, written}
 use Rattle.board.specs.Seated.{Seated, with_account}
 use Rattle.board.specs.Staging.{Staging, IsWritten, IsStaged, StayStaged, KeepsRoom}
 use Rattle.board.proofs.StagedStays.{written_stays, staged_stays, room_same}
-use Rattle.class_tree.specs.declared.insert.InsertError.{InsertError}
-use Rattle.loader.specs.Stages.{next_block, staging, after_block, rows_of, HasRows, WasStopped}
+use Rattle.loader.specs.Stages.{next_block, after_block, rows_of, HasRows}
 use Rattle.loader.proofs.BlockRows.{rows_in}
 
 -- ---- what is kept

@@ -9,30 +9,23 @@ use Rattle.htss_defs.specs.declared.shape.Shape.{Shape}
 use Rattle.board_core.specs.declared.account.Account.{Account}
 use Rattle.board_core.specs.Each.{Each}
 use Rattle.board_core.specs.EpochRule.{IsPast, last_epoch}
-use Rattle.board_core.specs.Sheets.{parts, stamps}
-use Rattle.board_core.specs.Loaded.{HasEpoch, HasOwn, IsPage}
+use Rattle.board_core.specs.Loaded.{HasEpoch, IsPage}
 use Rattle.board_core.proofs.PageSums.{parts_stamped, stamp_given}
 use Rattle.board_core.specs.After.{after_epoch, after_pass, lower}
 use Rattle.board_core.specs.Steps.{MayPass, MayRetire}
 use Rattle.board_core.specs.declared.account.Who.{Who}
 use Rattle.board_core.specs.declared.account.Who.TheVariants.{Loader}
 use Rattle.board.specs.Seated.{Place, Seated, IsOf, IsLoader, number_in, with_account}
-use Rattle.page_pool.specs.Taking.{IsFree, IsLeast, risen_to, HasTried, HasRisen, all_passed, HasPassed, HasScanned}
+use Rattle.page_pool.specs.Taking.{IsUnstamped, IsLeast, risen_to, HasTried, HasRisen, all_passed, HasPassed, HasScanned}
 
 -- the epoch that was just loaded
 pub has_epoch : (a : Account) (e : ℕ) → HasEpoch (after_epoch a e) e
 has_epoch a e = (length a.loads.epochs, at_last a.loads.epochs e (length a.loads.epochs) refl)
 
 -- a page may be retired with it
-pub may_retire : (k : Shape) (c d : Seated) (page epoch : ℕ) → d ≡ with_account c (after_epoch c.account epoch) → 0 < epoch → IsPage k page → IsFree c.account page → MayRetire k d.account page epoch
-may_retire k c d page epoch is above within free = subst (λ (x : Seated). MayRetire k x.account page epoch) (sym is) record {
-  inside = within;
-  kind = ⊎_elim
-      (λ (own : HasOwn c.account page). inr (own, has_epoch c.account epoch))
-      (λ (t : (parts page c.account.pool.parted ≡ 1) × (stamps page c.account.pool.parted ≡ 0)). let one = t.0 in let same = parts_stamped epoch page c.account.pool.parted in
-      inl (above, omega arith, stamp_given epoch page c.account.pool.parted t.0 t.1))
-      free;
-}
+pub may_retire : (k : Shape) (c d : Seated) (page epoch : ℕ) → d ≡ with_account c (after_epoch c.account epoch) → 0 < epoch → IsPage k page → IsUnstamped c.account page → MayRetire k d.account page epoch
+may_retire k c d page epoch is above within (one, none) = let same = parts_stamped epoch page c.account.pool.parted in
+    subst (λ (x : Seated). MayRetire k x.account page epoch) (sym is) record { inside = within; parted = (above, omega arith, stamp_given epoch page c.account.pool.parted one none) }
 
 -- the epoch loaded at last is later, or the last
 pub has_risen : (c d f g : Seated) (first epoch : ℕ) → d ≡ with_account c (after_epoch c.account first) → HasTried first d f → g ≡ with_account f (after_epoch f.account epoch) → 0 < epoch → epoch ≤ last_epoch → Each (IsPast epoch) f.account.loads.epochs → f.account.pool.risen ≤ epoch → HasRisen c g epoch

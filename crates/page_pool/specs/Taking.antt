@@ -19,9 +19,9 @@ pub record IsPinned (c d : Seated) : Type 0 where
   pub above : 0 < epoch
   pub after : d ≡ with_account c (after_pin (after_epoch c.account epoch) epoch)
 
--- the page is the caller's own, or unlinked and not yet stamped
-abbrev pub IsFree : Account → ℕ → Type 0
-IsFree a page = HasOwn a page ⊎ ((parts page a.pool.parted ≡ 1) × (stamps page a.pool.parted ≡ 0))
+-- the caller has unlinked the page, which has no stamp yet
+abbrev pub IsUnstamped : Account → ℕ → Type 0
+IsUnstamped a page = (parts page a.pool.parted ≡ 1) × (stamps page a.pool.parted ≡ 0)
 
 -- the epoch was loaded, and the page is retired with it as its stamp
 pub record IsRetired (c d : Seated) (page : ℕ) : Type 0 where

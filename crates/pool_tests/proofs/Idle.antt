@@ -10,7 +10,7 @@ use Rattle.board_core.specs.declared.account.Who.{Who}
 use Rattle.board_core.specs.declared.account.Who.TheVariants.{Opener, Loader, Searcher, Note, Gone}
 use Rattle.board.specs.Seated.{Place, Seated, IsNew, AreNew, IsLoader, is_loader, number_in}
 use Rattle.board.proofs.Gathers.{first_out}
-use Rattle.pool_tests.specs.Ready.{IsIdle, IsReady}
+use Rattle.pool_tests.specs.Ready.{IsIdle, IsResting, IsReady}
 
 -- ---- a board that was just opened
 
@@ -25,11 +25,21 @@ idle_from b n (c ∷ cs) new = All-cons (IsIdle b) c cs (new_idle b (n + 0) c (n
 pub new_callers : (b : Place) (cs : List Seated) → AreNew b cs → All (IsIdle b) cs
 new_callers b cs new = idle_from b 0 cs (λ i c there. subst (λ (m : ℕ). IsNew b m c) (let e : i ≡ 0 + i = omega arith in e) (new i c there))
 
+idle_rests : (b : Place) (c : Seated) → IsIdle b c → IsResting b c
+idle_rests b c i = record { of = i.of; unpinned = i.unpinned; few = let none : length c.stock ≡ 0 = ap length i.bare in omega arith }
+
+pub all_resting : (b : Place) (cs : List Seated) → All (IsIdle b) cs → All (IsResting b) cs
+all_resting b [] all = All-nil (IsResting b)
+all_resting b (c ∷ cs) all = All-cons (IsResting b) c cs (idle_rests b c (All-head (IsIdle b) c cs all)) (all_resting b cs (All-tail (IsIdle b) c cs all))
+
 -- the first of them is taken out
 pub one_out : (b : Place) (cs ds : List Seated) (x : Seated) → 0 < length cs → x ≡ get_or cs 0 x → ds ≡ remove cs 0 → All (IsIdle b) cs → IsIdle b x × All (IsIdle b) ds
 one_out b cs ds x some_caller value rest all =
     let those : All (IsIdle b) (x ∷ ds) = subst (All (IsIdle b)) (first_out cs ds x some_caller value rest) all in
     (All-head (IsIdle b) x ds those, All-tail (IsIdle b) x ds those)
+
+pub resting_out : (b : Place) (cs ds : List Seated) (x : Seated) → 0 < length cs → x ≡ get_or cs 0 x → ds ≡ remove cs 0 → All (IsResting b) cs → IsResting b x
+resting_out b cs ds x some_caller value rest all = All-head (IsResting b) x ds (subst (All (IsResting b)) (first_out cs ds x some_caller value rest) all)
 
 -- a caller that says that it is a loader
 loader_who : (w : Who) → is_loader w ≡ true → w ≡ Loader (number_in w)

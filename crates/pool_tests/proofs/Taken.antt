@@ -1,5 +1,5 @@
 -- What a loader that keeps no page has after it took one, or gave one back.
-use Rattle.std.proofs.Common.{◌≡◌, ℕ, ◌<◌, List, [], ◌∷◌, ◌++◌, length, sym, ap, ◌∙◌, subst, arith, ⊎_elim, length-append}
+use Rattle.std.proofs.Common.{◌≡◌, ℕ, ◌+◌, ◌<◌, ◌≤◌, List, [], ◌∷◌, ◌++◌, length, sym, ap, ◌∙◌, subst, arith, ⊎_elim, length-append}
 use mathlib.Core.Option.{some-ne-none}
 use mathlib.Core.Logic.{dite}
 use native.Mathlib.Decide.{ℕ_discrete}
@@ -38,3 +38,10 @@ given_bare k c d page g bare = ⊎_elim
 pub taken_bare : (k : Shape) (c d : Seated) (r : Result ℕ NoPage) → IfOk r (λ page. IsPage k page × IsGiven k c d page) → IfErr r (λ _. (c.stock ≡ []) × IsRefused k c d) → c.stock ≡ [] → d.stock ≡ []
 taken_bare k c d (Ok page) ok err bare = given_bare k c d page ok.1 bare
 taken_bare k c d (Err e) ok err bare = err.1.stock ∙ bare
+
+-- and where it kept at most one, it keeps none
+pub given_few : (k : Shape) (c d : Seated) (page : ℕ) → IsGiven k c d page → length c.stock ≤ 1 → length d.stock ≡ 0
+given_few k c d page g few = ⊎_elim
+    (λ (t : (d ≡ with_stock c d.stock) × (c.stock ≡ d.stock ++ page ∷ [])). let long : length c.stock ≡ length d.stock + 1 = ap length t.1 ∙ length-append d.stock (page ∷ []) in omega arith)
+    (λ (t : (c.stock ≡ []) × HasFound k c d page). let none : length d.stock ≡ 0 = ap length (found_stock k c d page t.1 ∙ t.0) in none)
+    g.from

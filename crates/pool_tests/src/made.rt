@@ -1,7 +1,7 @@
 // Boards that were just opened, with their callers.
 ghost use Rattle.std.specs.Prelude.{◌≡◌, IfOk};
 ghost use Rattle.std.specs.List.{All};
-ghost use Rattle.pool_tests.specs.Ready.{IsIdle};
+ghost use Rattle.pool_tests.specs.Ready.{IsIdle, IsResting};
 
 use board::{Board, Caller, open_board};
 use htss_defs::Shape;
@@ -16,6 +16,7 @@ pub(crate) fn open(
     pages: u32,
 ) -> Result<(Board, Vec<Caller>), Fail>
     ensures callers { IfOk result (λ r. All (IsIdle r.0) r.1.items) }
+    ensures resting { IfOk result (λ r. All (IsResting r.0) r.1.items) }
     ensures pages { IfOk result (λ r. r.0.shape.pages ≡ pages) }
 {
     let shape = Shape {

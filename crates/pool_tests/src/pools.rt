@@ -1,18 +1,17 @@
-// Sixteen pages: all are taken, one is retired while a searcher is pinned, and it is taken again once the searcher has left.
+// Sixteen pages: all are taken, and one that is kept is given again.
 ghost use Rattle.std.specs.Prelude.{◌≡◌, ◌<◌, ◌≤◌, [], IfOk, IsTrue};
 ghost use Rattle.board_core.specs.Loaded.{HasOwn};
 ghost use Rattle.pool_tests.specs.Ready.{IsIdle, IsReady};
 
 use crate::made::open;
 use board::{Board, Caller};
-use page_pool::{NoPage, keep, pin, retire, take, unpin};
+use page_pool::{NoPage, keep, take};
 use std::alloc::Global;
 use std::test::Fail;
 
-// A new board of sixteen pages, its loader and its searcher.
-fn open_two(alloc: Global) -> Result<(Board, Caller, Caller), Fail>
+// A new board of sixteen pages, and its loader. It has a searcher too.
+fn open_loader(alloc: Global) -> Result<(Board, Caller), Fail>
     ensures loader { IfOk result (λ r. IsReady r.0 r.1) }
-    ensures searcher { IfOk result (λ r. IsIdle r.0 r.2) }
     ensures pages { IfOk result (λ r. r.0.shape.pages ≡ 16) }
 {
     let (board, mut callers) = open(alloc, 1, 1, 16)?;
@@ -20,19 +19,18 @@ fn open_two(alloc: Global) -> Result<(Board, Caller, Caller), Fail>
         return Err("not two callers".into());
     }
     let loader = callers.remove(0);
-    let searcher = callers.remove(0);
     if !loader.is_loader() {
         return Err("no loader".into());
     }
-    Ok((board, loader, searcher))
+    Ok((board, loader))
 }
 
-// Page 5 stays the caller's own, if it was.
+// Page 16 stays the caller's own, if it was.
 fn take_one(board: &Board, caller: &mut Caller) -> Result<u32, NoPage>
     requires ready { IsReady board.now caller.old }
     ensures ready { IsReady board.now caller.new }
     ensures own { IfOk result (λ page. HasOwn caller.new.account page) }
-    ensures five { HasOwn caller.old.account 5 → HasOwn caller.new.account 5 }
+    ensures last { HasOwn caller.old.account 16 → HasOwn caller.new.account 16 }
 {
     take(board, caller)
 }
@@ -42,7 +40,7 @@ fn takes(board: &Board, caller: &mut Caller, page: u32) -> bool
     requires ready { IsReady board.now caller.old }
     ensures ready { IsReady board.now caller.new }
     ensures own { IsTrue result → HasOwn caller.new.account page }
-    ensures five { HasOwn caller.old.account 5 → HasOwn caller.new.account 5 }
+    ensures last { HasOwn caller.old.account 16 → HasOwn caller.new.account 16 }
 {
     match take_one(board, caller) {
         Ok(given) => given == page,
@@ -54,7 +52,7 @@ fn takes(board: &Board, caller: &mut Caller, page: u32) -> bool
 fn takes_all(board: &Board, caller: &mut Caller) -> bool
     requires ready { IsReady board.now caller.old }
     ensures ready { IsReady board.now caller.new }
-    ensures own { IsTrue result → HasOwn caller.new.account 5 }
+    ensures own { IsTrue result → HasOwn caller.new.account 16 }
 {
     for page in 2..17 {
         if !takes(board, caller, page) {
@@ -64,28 +62,22 @@ fn takes_all(board: &Board, caller: &mut Caller) -> bool
     true
 }
 
-// Page 5 is given back.
-fn give_back(board: &Board, caller: &mut Caller)
+// Whether page 16, which is kept, is given again.
+fn keeps_last(board: &Board, caller: &mut Caller) -> bool
     requires ready { IsReady board.now caller.old }
-    requires own { HasOwn caller.old.account 5 }
+    requires own { HasOwn caller.old.account 16 }
     requires pages { board.now.shape.pages ≡ 16 }
-    ensures { IsReady board.now caller.new }
 {
-    retire(board, caller, 5);
+    keep(caller, 16);
+    take(board, caller) == Ok(16)
 }
 
 #[test]
 fn pool_of_sixteen(rt: HostRuntime) -> Result<(), Fail> {
-    let (board, mut loader, mut searcher) = open_two(rt.alloc())?;
+    let (board, mut loader) = open_loader(rt.alloc())?;
     let board = &board;
     assert!(rt; takes_all(board, &mut loader));
     assert_eq!(rt; take_one(board, &mut loader), Err(NoPage));
-    pin(board, &mut searcher);
-    give_back(board, &mut loader);
-    assert_eq!(rt; take_one(board, &mut loader), Err(NoPage));
-    unpin(board, &mut searcher);
-    assert!(rt; takes(board, &mut loader, 5));
-    keep(&mut loader, 5);
-    assert_eq!(rt; take(board, &mut loader), Ok(5));
+    assert!(rt; keeps_last(board, &mut loader));
     Ok(())
 }

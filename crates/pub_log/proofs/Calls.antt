@@ -14,7 +14,8 @@ use Rattle.board_core.specs.declared.loads.Loads.{Loads}
 use Rattle.board_core.specs.Accounts.{nothing}
 use Rattle.board_core.specs.Loaded.{Grows}
 use Rattle.board_core.specs.After.{noted, after_free, after_shown, after_mark, with_published}
-use Rattle.board_core.proofs.Grown.{grows_same, grows_trans, grows_quiet, grows_shown, grows_mark}
+use Rattle.board_core.proofs.Lists.{at_longer}
+use Rattle.board_core.proofs.Grown.{entries_added, grows_same, grows_trans, grows_quiet, grows_shown, grows_mark}
 use Rattle.board.specs.Seated.{Seated, with_account, number_of, number_in}
 use Rattle.pub_log.specs.Locking.{IsHeld, IsCalled, after_withdrawal}
 
@@ -78,7 +79,7 @@ called_free k a b front es r h = record {
   counts = r.counts;
   fronts = r.fronts;
   loads = r.loads;
-  grows = grows_trans a b (after_free b es) r.grows (grows_quiet b (after_free b es) (omega arith) refl);
+  grows = grows_trans a b (after_free b es) r.grows (grows_quiet b (after_free b es) (omega arith) refl (entries_added b (after_free b es) (noted b.loads es) refl));
   entries = ap (λ (l : List Noted). l ++ noted b.loads es) r.entries;
 }
 
@@ -97,7 +98,7 @@ called_full k c d e front told same r h is =
     subst (λ (z : ℕ). IsCalled c.account e.account front (LogFull z ∷ [])) ((still_held k c.account d.account front r h).seen ∙ sym same) (called_freed k c d e front (LogFull d.account.log.seen ∷ []) r h is)
 
 pub grows_freed : (d e : Seated) (es : List Entry) → e ≡ with_account d (after_free d.account es) → Grows d.account e.account
-grows_freed d e es is = subst (λ (s : Seated). Grows d.account s.account) (sym is) (grows_quiet d.account (after_free d.account es) (omega arith) refl)
+grows_freed d e es is = subst (λ (s : Seated). Grows d.account s.account) (sym is) (grows_quiet d.account (after_free d.account es) (omega arith) refl (entries_added d.account (after_free d.account es) (noted d.account.loads es) refl))
 
 -- ---- a number is withdrawn
 
@@ -112,7 +113,7 @@ called_end k a b front x r h = record {
   counts = r.counts;
   fronts = r.fronts;
   loads = r.loads;
-  grows = grows_trans a b (after_withdrawal b (number_in b.who) x) r.grows (grows_quiet b (after_withdrawal b (number_in b.who) x) (omega arith) refl);
+  grows = grows_trans a b (after_withdrawal b (number_in b.who) x) r.grows (grows_quiet b (after_withdrawal b (number_in b.who) x) (omega arith) refl (λ j y there. at_longer (b.entries ++ noted b.loads (Withdrawn (b.log.seen + 1) (Withdraw (number_in b.who) x.target) ∷ [])) [] j y (at_longer b.entries (noted b.loads (Withdrawn (b.log.seen + 1) (Withdraw (number_in b.who) x.target) ∷ [])) j y there)));
   entries = append-nil (b.entries ++ noted b.loads (Withdrawn (b.log.seen + 1) (Withdraw (number_in b.who) x.target) ∷ []))
       ∙ (λ i. r.entries i ++ noted b.loads (Withdrawn (h.seen i + 1) (Withdraw (number_in (r.who i)) x.target) ∷ []));
 }

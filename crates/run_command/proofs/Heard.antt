@@ -33,7 +33,7 @@ heard_grows : (a b : Account) → HeardMore a b → Grows a b
 heard_grows a b heard =
     let later = heard.later in
     let seen : b.log.seen ≡ heard.front = ap (λ (x : Account). x.log.seen) heard.is in
-    grows_quiet a b (omega (arith, later, seen)) (ap (λ (x : Account). x.loads) heard.is)
+    grows_quiet a b (omega (arith, later, seen)) (ap (λ (x : Account). x.loads) heard.is) (entries_same a b (heard_entries a b heard))
 
 module _ (k : Shape) (first last : List Account) (heard : HaveGoneAndHeard k first last) where
   -- the account that an earlier one became

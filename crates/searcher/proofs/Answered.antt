@@ -19,7 +19,7 @@ use Rattle.board_core.specs.After.{after_front, after_answer, noted}
 use Rattle.board_core.specs.Steps.{AreTrue, MayBe}
 use Rattle.board.specs.Seated.{Seated, with_account}
 use Rattle.board_core.proofs.Lists.{each_none, each_cons}
-use Rattle.board_core.proofs.Grown.{grows_trans, grows_front, grows_quiet}
+use Rattle.board_core.proofs.Grown.{entries_added, grows_trans, grows_front, grows_quiet}
 use Rattle.board_core.proofs.BlockCauses.{seen_within}
 use Rattle.searcher.specs.Searched.{IsSearched, LoadsOnce}
 use Rattle.searcher.specs.Walking.{Reads, Replies, Whatever}
@@ -67,7 +67,7 @@ once_noted a b numbers es o = record {
 -- the front was loaded, then words, and then the entries were added
 searched : (a b : Account) (front : ℕ) (es : List Entry) → answers_in (noted b.loads es) ≡ noted b.loads es → a.log.seen ≤ front → Reads (after_front a front) b → LoadsOnce (after_front a front) b front → IsSearched a (after_answer b es) front es
 searched a b front es answers later r once = record {
-  grown = grows_trans a (after_front a front) (after_answer b es) (grows_front a front later) (grows_trans (after_front a front) b (after_answer b es) r.grown (grows_quiet b (after_answer b es) (omega arith) refl));
+  grown = grows_trans a (after_front a front) (after_answer b es) (grows_front a front later) (grows_trans (after_front a front) b (after_answer b es) r.grown (grows_quiet b (after_answer b es) (omega arith) refl (entries_added b (after_answer b es) (noted b.loads es) refl)));
   who = r.who;
   log = r.log;
   room = r.room;
@@ -107,7 +107,7 @@ module _ (c f : Seated) (front : ℕ) (loaded : f ≡ with_account c (after_fron
 
 -- what holds whatever the board is holds as well when entries were added
 pub whatever_noted : (k : Shape) (b n : Seated) (es : List Entry) (front : ℕ) (F : List Event → Type 0) → n ≡ with_account b (after_answer b.account es) → Whatever k b.account front F → Whatever k n.account front F
-whatever_noted k b n es front F is all = subst (λ (x : Seated). Whatever k x.account front F) (sym is) (whatever_later k b.account (after_answer b.account es) front F (grows_quiet b.account (after_answer b.account es) (omega arith) refl) all)
+whatever_noted k b n es front F is all = subst (λ (x : Seated). Whatever k x.account front F) (sym is) (whatever_later k b.account (after_answer b.account es) front F (grows_quiet b.account (after_answer b.account es) (omega arith) refl (entries_added b.account (after_answer b.account es) (noted b.account.loads es) refl)) all)
 
 pub same_front : (a b : ℕ) → (let r : Result ℕ SearchError = Err (OverBudget a) in r) ≡ Err (OverBudget b) → b ≡ a
 same_front a b e = cc

@@ -9,7 +9,7 @@ use Rattle.board_core.specs.declared.account.Account.{Account}
 use Rattle.board_core.specs.Words.{log_at}
 use Rattle.board_core.specs.LogWord.{kind_in, target_in}
 use Rattle.board_core.specs.Blocks.{ended_at, name_in, molecule_in}
-use Rattle.board_core.specs.Records.{IsRecord}
+use Rattle.board_core.specs.Records.{ShowsRecord}
 use Rattle.board_core.specs.Histories.{history_of}
 use Rattle.board_core.specs.After.{after_shown, after_mark}
 use Rattle.board_core.specs.Loaded.{HasLoaded, KnowsBlock, SawMark, IsOpenMark, IsInTable, HasBlock}
@@ -54,7 +54,7 @@ module _ (k : Shape) (c n : Seated) where
 pub block_known : (k : Shape) (a : Account) (front number block : ℕ) → IsOpenBlock k a front number block → KnowsBlock k a block
 block_known k a front number block o = (number, o.loaded)
 
-pub is_record : (k : Shape) (a : Account) (block : ℕ) (words : ℕ → ℕ) → HasBlock k a block words → MayBeSome k a → IsRecord words
+pub is_record : (k : Shape) (a : Account) (block : ℕ) (words : ℕ → ℕ) → HasBlock k a block words → MayBeSome k a → ShowsRecord words
 is_record k a block words h (p, m) = (record_loaded k p a m block words h).0
 
 pub read_live : (k : Shape) (a b : Account) (front number block : ℕ) (words : ℕ → ℕ) (name : List ℕ) (mol : Molecule) → IsOpenBlock k a front number block → Reads a b → number ≤ front → HasBlock k b block words → MayBeSome k b → name ≡ name_in words → mol ≡ molecule_in words → IsReadLive k b front number name mol

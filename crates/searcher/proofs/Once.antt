@@ -3,8 +3,7 @@ use Rattle.std.proofs.Common.{◌≡◌, ℕ, ◌+◌, ◌-◌, ◌≤◌, List,
 use Rattle.std.proofs.lemmas.List.Sums.{sum_by-append}
 use Rattle.board_core.specs.declared.account.Account.{Account}
 use Rattle.board_core.specs.declared.loads.WordLoad.{WordLoad}
-use Rattle.board_core.specs.declared.room.Row.{Row}
-use Rattle.board_core.specs.After.{after_shown, after_head, after_mark, after_fact, after_code}
+use Rattle.board_core.specs.After.{after_shown, after_head, after_mark, after_fact}
 use Rattle.board.specs.Seated.{Seated, with_account}
 use Rattle.searcher.specs.Searched.{Loads, LoadsOnce, words_past}
 
@@ -45,21 +44,22 @@ module _ (c n : Seated) where
     heads_are = sym (append-nil c.account.loads.heads);
   }
 
-  pub loads_code : (row : Row) (code word : ℕ) → n ≡ with_account c (after_code c.account row code word) → Loads c.account n.account 0 0 1 []
-  loads_code row code word is = loads_after (after_code c.account row code word) 0 0 1 [] is record {
-    shown_are = omega arith;
-    marks_are = omega arith;
-    words_are = let more = length-append c.account.loads.codes (record { row = row; code = code; word = word } ∷ []) in omega (arith, more);
-    heads_are = sym (append-nil c.account.loads.heads);
-  }
-
 -- a word more of a block
-pub loads_next : (a b c : Account) (index : ℕ) (heads : List WordLoad) → 3 ≤ index → Loads a b 0 0 (index - 3) heads → Loads b c 0 0 1 [] → Loads a c 0 0 (index + 1 - 3) heads
-loads_next a b c index heads past f g = record {
+pub loads_next : (a b c : Account) (from index : ℕ) → from ≤ index → Loads a b 0 0 (index - from) [] → Loads b c 0 0 1 [] → Loads a c 0 0 (index + 1 - from) []
+loads_next a b c from index past f g = record {
   shown_are = omega (arith, f.shown_are, g.shown_are);
   marks_are = omega (arith, f.marks_are, g.marks_are);
   words_are = omega (arith, f.words_are, g.words_are, past);
   heads_are = g.heads_are ∙ (append-nil b.loads.heads ∙ f.heads_are);
+}
+
+-- the first word of a block, then its name and atom words, then its bond words
+pub loads_block : (a b c d : Account) (block head low high : ℕ) → Loads a b 0 0 0 (record { place = block; word = head } ∷ []) → Loads b c 0 0 low [] → Loads c d 0 0 high [] → Loads a d 0 0 (low + high) (record { place = block; word = head } ∷ [])
+loads_block a b c d block head low high f g h = record {
+  shown_are = omega (arith, f.shown_are, g.shown_are, h.shown_are);
+  marks_are = omega (arith, f.marks_are, g.marks_are, h.marks_are);
+  words_are = omega (arith, f.words_are, g.words_are, h.words_are);
+  heads_are = h.heads_are ∙ (append-nil c.loads.heads ∙ (g.heads_are ∙ (append-nil b.loads.heads ∙ f.heads_are)));
 }
 
 -- ---- numbers
@@ -77,7 +77,7 @@ once_both a b c m n f g = let first = f.few_words in let second = g.few_words in
   few_shown = omega (arith, f.few_shown, g.few_shown);
   few_marks = omega (arith, f.few_marks, g.few_marks);
   few_heads = omega (arith, f.few_heads, g.few_heads, length-append f.heads g.heads);
-  few_words = omega (arith, first, second, sum_by-append words_past f.heads g.heads);
+  few_words = omega (arith, first, second, sum_by-append (λ (h : WordLoad). words_past h.word) f.heads g.heads);
 }
 
 pub once_fewer : (a b : Account) (m n : ℕ) → m ≤ n → LoadsOnce a b m → LoadsOnce a b n
@@ -98,11 +98,11 @@ pub once_passed : (a b : Account) (marks : ℕ) → marks ≤ 1 → Loads a b 1 
 once_passed a b marks few loads = record { shown = 1; marks = marks; words = 0; heads = []; loads = loads; few_shown = omega arith; few_marks = few; few_heads = omega arith; few_words = omega arith }
 
 -- a number whose block is loaded
-pub once_block : (a b c : Account) (marks : ℕ) (head : WordLoad) → marks ≤ 1 → Loads a b 1 marks 0 [] → Loads b c 0 0 (words_past head) (head ∷ []) → LoadsOnce a c 1
+pub once_block : (a b c : Account) (marks : ℕ) (head : WordLoad) → marks ≤ 1 → Loads a b 1 marks 0 [] → Loads b c 0 0 (words_past head.word) (head ∷ []) → LoadsOnce a c 1
 once_block a b c marks head few first rest = record {
   shown = 1;
   marks = marks;
-  words = words_past head;
+  words = words_past head.word;
   heads = head ∷ [];
   loads = record {
     shown_are = omega (arith, first.shown_are, rest.shown_are);

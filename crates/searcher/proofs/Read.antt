@@ -1,14 +1,13 @@
 -- Accounts that have only loaded more, and what one load adds.
 use Rattle.std.proofs.Common.{◌≡◌, ℕ, refl, sym, ◌∙◌, subst}
 use Rattle.board_core.specs.declared.account.Account.{Account}
-use Rattle.board_core.specs.declared.room.Row.{Row}
-use Rattle.board_core.specs.After.{after_shown, after_head, after_mark, after_fact, after_code}
+use Rattle.board_core.specs.After.{after_shown, after_head, after_mark, after_fact}
 use Rattle.board.specs.Seated.{Place, Seated, IsOf, with_account}
-use Rattle.board_core.proofs.Grown.{grows_same, grows_trans, grows_shown, grows_head, grows_mark, grows_fact, grows_code}
+use Rattle.board_core.proofs.Grown.{grows_same, grows_trans, grows_shown, grows_head, grows_mark, grows_fact}
 use Rattle.searcher.specs.Walking.{Reads}
 
 pub reads_same : (a : Account) → Reads a a
-reads_same a = record { grown = grows_same a; who = refl; log = refl; room = refl; pool = refl; tree = refl; counts = refl; fronts = refl; entries = refl }
+reads_same a = record { grown = grows_same a; who = refl; log = refl; room = refl; pool = refl; tree = refl; counts = refl; fronts = refl; codes = refl; entries = refl }
 
 pub reads_trans : (a b c : Account) → Reads a b → Reads b c → Reads a c
 reads_trans a b c f g = record {
@@ -20,6 +19,7 @@ reads_trans a b c f g = record {
   tree = g.tree ∙ f.tree;
   counts = g.counts ∙ f.counts;
   fronts = g.fronts ∙ f.fronts;
+  codes = g.codes ∙ f.codes;
   entries = g.entries ∙ f.entries;
 }
 
@@ -34,20 +34,16 @@ module _ (c n : Seated) where
 
   pub reads_shown : (place word : ℕ) → n ≡ with_account c (after_shown c.account place word) → Reads c.account n.account
   reads_shown place word is = reads_after (after_shown c.account place word) is
-      record { grown = grows_shown c.account place word; who = refl; log = refl; room = refl; pool = refl; tree = refl; counts = refl; fronts = refl; entries = refl }
+      record { grown = grows_shown c.account place word; who = refl; log = refl; room = refl; pool = refl; tree = refl; counts = refl; fronts = refl; codes = refl; entries = refl }
 
   pub reads_head : (place word : ℕ) → n ≡ with_account c (after_head c.account place word) → Reads c.account n.account
   reads_head place word is = reads_after (after_head c.account place word) is
-      record { grown = grows_head c.account place word; who = refl; log = refl; room = refl; pool = refl; tree = refl; counts = refl; fronts = refl; entries = refl }
+      record { grown = grows_head c.account place word; who = refl; log = refl; room = refl; pool = refl; tree = refl; counts = refl; fronts = refl; codes = refl; entries = refl }
 
   pub reads_mark : (place word : ℕ) → n ≡ with_account c (after_mark c.account place word) → Reads c.account n.account
   reads_mark place word is = reads_after (after_mark c.account place word) is
-      record { grown = grows_mark c.account place word; who = refl; log = refl; room = refl; pool = refl; tree = refl; counts = refl; fronts = refl; entries = refl }
+      record { grown = grows_mark c.account place word; who = refl; log = refl; room = refl; pool = refl; tree = refl; counts = refl; fronts = refl; codes = refl; entries = refl }
 
   pub reads_fact : (place word : ℕ) → n ≡ with_account c (after_fact c.account place word) → Reads c.account n.account
   reads_fact place word is = reads_after (after_fact c.account place word) is
-      record { grown = grows_fact c.account place word; who = refl; log = refl; room = refl; pool = refl; tree = refl; counts = refl; fronts = refl; entries = refl }
-
-  pub reads_code : (row : Row) (code word : ℕ) → n ≡ with_account c (after_code c.account row code word) → Reads c.account n.account
-  reads_code row code word is = reads_after (after_code c.account row code word) is
-      record { grown = grows_code c.account row code word; who = refl; log = refl; room = refl; pool = refl; tree = refl; counts = refl; fronts = refl; entries = refl }
+      record { grown = grows_fact c.account place word; who = refl; log = refl; room = refl; pool = refl; tree = refl; counts = refl; fronts = refl; codes = refl; entries = refl }

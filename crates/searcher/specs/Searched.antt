@@ -11,26 +11,26 @@ use Rattle.board_core.specs.declared.loads.WordLoad.{WordLoad}
 use Rattle.htss_defs.specs.declared.shape.Shape.{Shape}
 use Rattle.board_core.specs.Answers.{answers_in}
 use Rattle.board_core.specs.After.{fronted, noted}
-use Rattle.board_core.specs.Blocks.{block_size}
+use Rattle.board_core.specs.Blocks.{code_words_at, bond_words_at, block_size}
 use Rattle.board_core.specs.Histories.{history_of}
 use Rattle.board_core.specs.Loaded.{Grows}
 use Rattle.board_core.specs.Steps.{MayBe}
 use Rattle.board_core.specs.Words.{Parts}
 
--- how much the second account has loaded past the first: so many log words and marks, so many name, atom, code and bond words of blocks,
--- and these first words
+-- how much the second account has loaded past the first: so many log words and marks, so many name, atom and bond words of blocks, and
+-- these first words
 pub record Loads (a b : Account) (shown marks words : ℕ) (heads : List WordLoad) : Type 0 where
   pub shown_are : length b.loads.shown ≡ length a.loads.shown + shown
   pub marks_are : length b.loads.marks ≡ length a.loads.marks + marks
-  pub words_are : length b.loads.facts + length b.loads.codes ≡ length a.loads.facts + length a.loads.codes + words
+  pub words_are : length b.loads.facts ≡ length a.loads.facts + words
   pub heads_are : b.loads.heads ≡ a.loads.heads ++ heads
 
--- the words of a block that follow its marks, by its first word
-abbrev pub words_past : WordLoad → ℕ
-words_past head = block_size head.word - 3
+-- the name, atom and bond words of a block, by its first word
+abbrev pub words_past : ℕ → ℕ
+words_past head = code_words_at head - 3 + (block_size head - bond_words_at head)
 
 -- of so many numbers each log word at most once, and at most one mark and one first word for each; and of each block whose first word was
--- loaded the words that follow its marks, each once at most
+-- loaded its name, atom and bond words, each once at most
 pub record LoadsOnce (a b : Account) (numbers : ℕ) : Type 0 where
   pub shown : ℕ
   pub marks : ℕ
@@ -40,7 +40,7 @@ pub record LoadsOnce (a b : Account) (numbers : ℕ) : Type 0 where
   pub few_shown : shown ≤ numbers
   pub few_marks : marks ≤ numbers
   pub few_heads : length heads ≤ numbers
-  pub few_words : words ≤ sum_by words_past heads
+  pub few_words : words ≤ sum_by (λ h. words_past h.word) heads
 
 -- the second account has loaded the front and more words than the first, each once at most, and has these entries more, the rows that a
 -- search has come to set aside

@@ -1,5 +1,5 @@
 -- What a walk over the log words of a history keeps.
-use Rattle.std.specs.Prelude.{◌≡◌, ℕ, ◌+◌, ◌<◌, ◌≤◌, ◌⊎◌, List, length, map, take, All, Contains}
+use Rattle.std.specs.Prelude.{◌≡◌, ℕ, ◌<◌, ◌≤◌, List, length, map, take, slice_index, All, Contains}
 use Rattle.std.specs.List.Sorted.{IsStrictlyIncreasing}
 use Rattle.htss_defs.specs.declared.shape.Shape.{Shape}
 use Rattle.htss_defs.specs.declared.history.Event.{Event}
@@ -12,14 +12,12 @@ use Rattle.htss_defs.specs.Reply.{Numbered, Reply, IsReply, atoms_of, found}
 use Rattle.reg_model.specs.Searches.{Counts}
 use Rattle.board_core.specs.declared.account.Account.{Account}
 use Rattle.board_core.specs.Words.{Parts}
-use Rattle.board_core.specs.Blocks.{atoms_in, code_words_at, bond_words_at}
-use Rattle.board_core.specs.Records.{code_word_at}
 use Rattle.board_core.specs.Histories.{history_of}
-use Rattle.board_core.specs.Loaded.{Grows, HasFact, HasCode, HasLoaded, SawMark, IsOpenMark, IsInTable}
+use Rattle.board_core.specs.Loaded.{Grows, HasFact, HasLoaded, SawMark, IsOpenMark, IsInTable}
 use Rattle.board_core.specs.Steps.{MayBe}
 use Rattle.searcher.specs.Searched.{IsLiveRecord, CountsRows}
 
--- the second account has loaded more log words and words of blocks than the first, and differs in nothing else
+-- the second account has loaded more log words, marks and words of blocks than the first, but no codes, and differs in nothing else
 pub record Reads (a b : Account) : Type 0 where
   pub grown : Grows a b
   pub who : b.who ≡ a.who
@@ -29,12 +27,12 @@ pub record Reads (a b : Account) : Type 0 where
   pub tree : b.tree ≡ a.tree
   pub counts : b.counts ≡ a.counts
   pub fronts : b.loads.fronts ≡ a.loads.fronts
+  pub codes : b.loads.codes ≡ a.loads.codes
   pub entries : b.entries ≡ a.entries
 
--- the word at a place of a block, past its marks, was loaded as this one
-pub record HasWord (a : Account) (block head i word : ℕ) : Type 0 where
-  pub fact : (i < code_words_at head) ⊎ (bond_words_at head ≤ i) → HasFact a block i word
-  pub code : (atom code : ℕ) → atom < atoms_in head → code < 5 → code_word_at head atom code ≡ i → HasCode a block (atom + 1) code word
+-- the words of a block from one place up to another were loaded as these
+abbrev pub HasFacts : Account → ℕ → List ℕ → ℕ → ℕ → Type 0
+HasFacts a block words from until = (i : ℕ) → from ≤ i → i < until → HasFact a block i (slice_index words i)
 
 -- the number publishes this block, whose last mark was no event's up to the front
 pub record IsOpenBlock (k : Shape) (a : Account) (front number block : ℕ) : Type 0 where

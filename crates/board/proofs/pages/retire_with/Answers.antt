@@ -4,10 +4,8 @@ use Rattle.board_core.specs.declared.account.Account.{Account}
 use Rattle.board_core.specs.Words.{states_at}
 use Rattle.board_core.specs.Loaded.{IsPage}
 use Rattle.board_core.specs.Steps.{MayRetire}
-use Rattle.board.proofs.Tied.{same_table, of_shape, of_both, of_seated}
+use Rattle.board.proofs.Tied.{same_table, of_shape, of_both}
 use Rattle.board.proofs.PageWords.{state_word, retire_asked}
-use Rattle.board_core.specs.MarkRule.{IsAmong}
-use Rattle.board.specs.Seated.{Seated}
 use Rattle.board.proofs.Stocks.{retire_seat}
 use Rattle.board.proofs.pages.retire_with.Goals as goal
 
@@ -21,5 +19,4 @@ store-requires g c =
     )
 
 pub invariant_of-caller : goal.invariant_of-caller
-invariant_of-caller g c = (retire_seat c.caller.inside.seen c.caller.inside.used c.caller.inside.loader c.caller.inside.number c.caller.inside.stock.items c.caller.inside.next _ c.args.page _ _ c.requires.is
-    (of_seated (λ (x : Seated). ¬ (IsAmong x.stock c.args.page)) _ _ _ _ _ _ c.caller.view_is c.requires.free) c.store.ensures.2 record { facts = c.caller.invariant }).facts
+invariant_of-caller g c = (retire_seat c.caller.inside.seen c.caller.inside.used c.caller.inside.loader c.caller.inside.number c.caller.inside.stock.items c.caller.inside.next g.P.Paged.page _ _ c.store.ensures.2 record { facts = c.caller.invariant }).facts

@@ -5,7 +5,7 @@ use Rattle.board_core.specs.ClassTree.{slot_at}
 use Rattle.board_core.specs.Loaded.{IsPage, page_word}
 use Rattle.board_core.specs.After.{visited}
 use Rattle.board_core.specs.Steps.{MayLoadSlot}
-use Rattle.board.proofs.Tied.{same_table, of_shape, of_account, of_both}
+use Rattle.board.proofs.Tied.{same_table, same_shape, of_shape, of_account, of_both}
 use Rattle.board.proofs.TreeWords.{page_fits, slot_inside, slot_asked}
 use Rattle.board.proofs.tree.load_slot_of.Goals as goal
 
@@ -17,5 +17,5 @@ load-requires g c =
     let at = c.page_place-at.ensures ∙ ap (λ (k : Shape). page_word k c.args.page (c.args.place)) (sym c.board.invariant.0) in (
       same_table _ _ _ _ _ _ _ _ _ c.board.view_is c.caller.view_is c.requires.fits,
       page_fits _ _ _ _ _ _ _ c.args.page (c.args.place) c.board.invariant.1 c.page_place-at.ensures inside.0 inside.1 (slot_inside _ _ _ c.requires.place c.requires.may.room),
-      slot_asked _ _ _ _ c.args.number c.args.page c.args.place _ _ c.requires.is at page (of_account (λ (a : Account). slot_at (visited a.tree.reached c.args.number).leaf (length (visited a.tree.reached c.args.number).slots) ≡ c.args.place) _ _ _ _ _ _ c.caller.view_is c.requires.place) may,
+      slot_asked _ _ _ _ c.args.number c.args.page c.args.place _ _ c.requires.is at page (of_account (λ (a : Account). slot_at (visited a.tree.reached c.args.number).leaf (length (visited a.tree.reached c.args.number).slots) ≡ c.args.place) _ _ _ _ _ _ c.caller.view_is c.requires.place) (same_shape _ _ _ _ _ _ _ _ _ _ c.board.view_is c.caller.view_is c.board.invariant.0 c.requires.fits) may,
     )

@@ -1,7 +1,7 @@
 use Rattle.std.proofs.Common.{◌≡◌, ℕ, ap, ◌-◌, arith, subst}
 use Rattle.htss_defs.specs.declared.shape.Shape.{Shape}
 use Rattle.htss_defs.specs.declared.shape.Field.TheVariants.{Chain}
-use Rattle.class_tree.proofs.Searching.{along_first, along_next, along_read, along_found, along_full, reads_stocked, reads_loader, goes_of, refused_on, chain_stops, seeking_walked, IsAlong}
+use Rattle.class_tree.proofs.Searching.{along_first, along_next, along_read, along_found, along_full, reads_stocked, reads_loader, goes_of, lacks_one, chain_stops, seeking_walked, IsAlong}
 use Rattle.class_tree.proofs.Pages.{reads_of}
 use Rattle.class_tree.proofs.find.find_code.Goals as goal
 
@@ -51,7 +51,7 @@ next_inner-requires-clause-number c =
     let number = c.loop-rank.invariant.along.number in let first = c.requires.number in let deep = c.requires.deep in omega arith
 
 pub returns-in-Err-clause-found : goal.returns-in-Err-clause-found
-returns-in-Err-clause-found c = refused_on _ 0 _ c.find_in_page.new.caller _ (along_read _ _ c.loop-rank.caller _ _ c.loop-rank.at _ _ _ c.loop-rank.invariant.along c.in_default.ensures.reads) c.in-Err.ensures.next
+returns-in-Err-clause-found c = lacks_one _ 0 _ c.find_in_page.new.caller _ _ (along_read _ _ c.loop-rank.caller _ _ c.loop-rank.at _ _ _ c.loop-rank.invariant.along c.in_default.ensures.reads) c.in-Err.ensures.next
 
 pub loop-rank-preserved : goal.loop-rank-preserved
 loop-rank-preserved c = record {

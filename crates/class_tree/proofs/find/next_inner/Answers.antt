@@ -1,3 +1,4 @@
+use Rattle.class_tree.proofs.Searching.{more_refused}
 use Rattle.class_tree.proofs.Chain.{next_read, may_link_inner, inner_won, inner_lost, goes_loader, won_stocked, lost_but, stocked_again}
 use Rattle.std.proofs.Common.{refl}
 use Rattle.class_tree.proofs.find.next_inner.Goals as goal
@@ -28,3 +29,6 @@ returns-clause-stocked c = stocked_again c.link_next_inner-found.new.caller _ _ 
 
 pub returns-clause-next : goal.returns-clause-next
 returns-clause-next c = inner_lost _ c.args.caller.now c.load_more-word.new.caller c.make_page.new.caller c.link_next_inner-found.new.caller _ c.args.at _ _ _ _ _ _ _ c.args.target.now c.requires.seeking c.load_more-word.ensures.after c.if-word-ne0.false c.in-Ok.ensures.ready (c.link_next_inner-found.ensures.lost c.if-found-eq0.false) c.if-found-eq0.false (c.link_next_inner-found.ensures.page c.if-found-eq0.false) c.keep.ensures c.stop_at-2.ensures
+
+pub returns-in-Err-clause-next : goal.returns-in-Err-clause-next
+returns-in-Err-clause-next c = more_refused _ c.args.caller.now c.load_more-word.new.caller _ _ _ _ c.load_more-word.ensures.after c.in-Err.ensures.refused

@@ -1,5 +1,5 @@
 use Rattle.class_tree.proofs.Searching.{stops_on}
-use Rattle.class_tree.proofs.Begun.{first_depth, found_goes}
+use Rattle.class_tree.proofs.Begun.{first_depth, found_goes, next_depth, comes_down}
 use Rattle.class_tree.proofs.insert.descend.Goals as goal
 
 pub loop-depth-init : goal.loop-depth-init
@@ -10,3 +10,10 @@ returns-in-Err-clause-placed c = stops_on _ 0 _ c.loop-depth.caller _ _ _ c.loop
 
 pub returns-in-Err-follow-clause-placed : goal.returns-in-Err-follow-clause-placed
 returns-in-Err-follow-clause-placed c = stops_on _ 0 _ c.find_code.new.caller _ _ _ (found_goes _ _ c.loop-depth.caller _ _ _ _ _ c.loop-depth.invariant.at_depth c.in-Ok.ensures.found) c.in-Err-follow.ensures.goes
+
+pub loop-depth-preserved : goal.loop-depth-preserved
+loop-depth-preserved c = record {
+  at_depth = next_depth _ _ c.loop-depth.caller c.find_code.new.caller c.follow.new.caller c.loop-depth.at _ _ _ _ c.loop-depth.invariant.at_depth c.in-Ok.ensures.found (comes_down _ c.find_code.new.caller c.follow.new.caller c.in-Ok.slot _ _ _ _ c.in-Ok-Down.field-0-is c.in-Ok-Down.ensures.goes);
+  stocked = c.in-Ok-Down.ensures.stocked;
+  loader = c.in-Ok-Down.ensures.loader;
+}

@@ -1,8 +1,8 @@
 use Rattle.std.proofs.Common.{◌≡◌, ℕ, ap, ◌-◌, arith, subst}
 use Rattle.htss_defs.specs.declared.shape.Shape.{Shape}
 use Rattle.htss_defs.specs.declared.shape.Field.TheVariants.{Chain}
-use Rattle.class_tree.proofs.Searching.{reads_stocked, goes_of, chain_stops, full_stocked}
-use Rattle.class_tree.proofs.Leaves.{IsAlongLeaves, leaves_first, leaves_next, leaves_walked, leaves_full, some_next}
+use Rattle.class_tree.proofs.Searching.{reads_stocked, goes_of, lacks_one, chain_stops, full_stocked}
+use Rattle.class_tree.proofs.Leaves.{IsAlongLeaves, leaves_read, leaves_first, leaves_next, leaves_walked, leaves_full, some_next}
 use Rattle.class_tree.proofs.leaf.fill_chain.Goals as goal
 
 pub overflow_sub-rank-end : goal.overflow_sub-rank-end
@@ -48,5 +48,8 @@ returns-clause-placed c = let limit = c.shape-chain.ensures.limits Chain in let 
     let most = c.loop-rank.auto.rank-end in let past = c.loop-rank-test.false in
     let last : c.loop-rank.rank ≡ c.shape-chain.result.chain - 1 = omega arith in
     chain_stops _ _ _ _ _ c.refuse_chain.ensures.full (leaves_full _ _ c.loop-rank.caller c.fill_leaf-2.new.caller _ _ c.loop-rank.at _ _ _
-    (subst (λ (n : ℕ). IsAlongLeaves c.args.board.now.shape c.args.caller.now c.loop-rank.caller c.args.first c.loop-rank.at c.args.depth n c.args.target.now) last c.loop-rank.invariant.along)
+    (subst (λ (n : ℕ). IsAlongLeaves c.args.board.now.shape c.args.caller.now c.loop-rank.caller c.args.first c.loop-rank.at 5 n c.args.target.now) last c.loop-rank.invariant.along)
     c.if-fill_leaf-2.ensures.placed.0 c.if-fill_leaf-2.ensures.placed.1 (omega arith) c.refuse_chain.ensures.after)
+
+pub returns-in-Err-clause-placed : goal.returns-in-Err-clause-placed
+returns-in-Err-clause-placed c = lacks_one _ 0 _ c.fill_leaf.new.caller _ _ (leaves_read _ _ c.loop-rank.caller _ _ c.loop-rank.at _ _ _ c.loop-rank.invariant.along c.if-fill_leaf.ensures.placed.0) c.in-Err.ensures.next

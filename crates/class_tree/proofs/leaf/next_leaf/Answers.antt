@@ -1,12 +1,16 @@
-use Rattle.class_tree.proofs.Chain.{goes_loader, lost_but, stocked_again}
+use Rattle.class_tree.proofs.Searching.{more_refused}
+use Rattle.class_tree.proofs.Chain.{goes_loader, lost_but, stocked_again, more_stocked}
 use Rattle.class_tree.proofs.Leaves.{leaf_read, may_link_leaf, linked_stocked, leaf_lost}
 use Rattle.class_tree.proofs.leaf.next_leaf.Goals as goal
+
+pub make_page-requires-clause-stocked : goal.make_page-requires-clause-stocked
+make_page-requires-clause-stocked c = more_stocked c.args.caller.now _ _ _ c.requires.stocked c.load_more-word.ensures.after
 
 pub returns-then-word-ne0-clause-next : goal.returns-then-word-ne0-clause-next
 returns-then-word-ne0-clause-next c = leaf_read _ c.args.caller.now _ _ _ _ _ _ _ c.requires.leaf c.load_more-word.ensures.after c.if-word-ne0.true (c.load_more-word.ensures.page c.if-word-ne0.true) c.stop_at.ensures
 
 pub link_next_leaf-found-requires-clause-may : goal.link_next_leaf-found-requires-clause-may
-link_next_leaf-found-requires-clause-may c = may_link_leaf _ c.args.caller.now c.load_more-word.new.caller _ _ _ _ _ _ _ _ c.requires.leaf c.requires.rank.0 c.load_more-word.ensures.after c.if-word-ne0.false c.header_word-header.ensures c.in-Ok.ensures.ready
+link_next_leaf-found-requires-clause-may c = may_link_leaf _ c.args.caller.now c.load_more-word.new.caller _ _ _ _ _ _ _ c.requires.leaf c.requires.rank.0 c.load_more-word.ensures.after c.if-word-ne0.false c.header_word-header.ensures c.in-Ok.ensures.ready
 
 pub returns-then-found-eq0-clause-stocked : goal.returns-then-found-eq0-clause-stocked
 returns-then-found-eq0-clause-stocked c = linked_stocked _ c.load_more-word.new.caller c.make_page.new.caller _ _ _ _ _ c.in-Ok.ensures.ready (c.link_next_leaf-found.ensures.won c.if-found-eq0.true)
@@ -22,3 +26,6 @@ returns-clause-stocked c = stocked_again c.link_next_leaf-found.new.caller _ _ (
 
 pub returns-clause-next : goal.returns-clause-next
 returns-clause-next c = leaf_lost _ c.args.caller.now c.load_more-word.new.caller c.make_page.new.caller c.link_next_leaf-found.new.caller _ c.args.at _ _ _ _ _ _ _ c.args.target.now c.requires.leaf c.load_more-word.ensures.after c.if-word-ne0.false c.in-Ok.ensures.ready (c.link_next_leaf-found.ensures.lost c.if-found-eq0.false) c.if-found-eq0.false (c.link_next_leaf-found.ensures.page c.if-found-eq0.false) c.keep.ensures c.stop_at-2.ensures
+
+pub returns-in-Err-clause-next : goal.returns-in-Err-clause-next
+returns-in-Err-clause-next c = more_refused _ c.args.caller.now c.load_more-word.new.caller _ _ _ _ c.load_more-word.ensures.after c.in-Err.ensures.refused

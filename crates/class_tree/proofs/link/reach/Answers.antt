@@ -1,6 +1,7 @@
+use Rattle.class_tree.proofs.Searching.{link_refused}
 use Rattle.class_tree.proofs.Chain.{goes_loader, stocked_again}
-use Rattle.class_tree.proofs.Leaves.{linked_stocked}
-use Rattle.class_tree.proofs.Behind.{link_stocked, may_load_link, led_read, may_link, link_but, link_lost}
+use Rattle.class_tree.proofs.Leaves.{linked_stocked, linked_places}
+use Rattle.class_tree.proofs.Behind.{at_link, link_stocked, may_load_link, led_read, may_link, link_but, link_lost}
 use Rattle.class_tree.proofs.link.reach.Goals as goal
 
 pub load_link-word-requires-clause-may : goal.load_link-word-requires-clause-may
@@ -29,3 +30,12 @@ returns-clause-led c = link_lost _ c.args.caller.now c.load_link-word.new.caller
 
 pub make_page-requires-clause-stocked : goal.make_page-requires-clause-stocked
 make_page-requires-clause-stocked c = link_stocked c.args.caller.now _ _ _ _ _ c.requires.stocked c.load_link-word.ensures.after
+
+pub returns-in-Err-clause-led : goal.returns-in-Err-clause-led
+returns-in-Err-clause-led c = link_refused _ c.args.caller.now c.load_link-word.new.caller _ _ _ _ _ _ c.load_link-word.ensures.after c.in-Err.ensures.refused
+
+pub returns-then-word-ne0-clause-stocked : goal.returns-then-word-ne0-clause-stocked
+returns-then-word-ne0-clause-stocked c = link_stocked c.args.caller.now _ _ _ _ _ c.requires.stocked c.load_link-word.ensures.after
+
+pub returns-then-found-eq0-clause-led : goal.returns-then-found-eq0-clause-led
+returns-then-found-eq0-clause-led c = linked_places 0 c.args.caller.now c.make_page.new.caller _ _ _ (at_link _ c.args.caller.now c.load_link-word.new.caller _ c.args.slot _ _ _ _ _ c.args.target.now c.requires.code c.load_link-word.ensures.after c.if-word-ne0.false c.in-Ok.ensures.ready).goes (c.link_leaf-found.ensures.won c.if-found-eq0.true)

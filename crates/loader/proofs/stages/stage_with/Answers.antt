@@ -1,4 +1,4 @@
-use Rattle.std.proofs.Common.{ℕ, ◌+◌, ◌≤◌, List, [], ◌∷◌, length, sym, ap, ◌∙◌, subst}
+use Rattle.std.proofs.Common.{ℕ, ◌+◌, ◌≤◌, [], ◌∷◌, length, sym, ap, ◌∙◌, subst}
 use Rattle.htss_defs.specs.declared.record.NamedMol.{NamedMol}
 use Rattle.board_core.specs.declared.entry.Entry.TheVariants.{DataFull}
 use Rattle.board_core.specs.Blocks.{atoms_in}

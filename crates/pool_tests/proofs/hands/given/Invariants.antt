@@ -1,5 +1,8 @@
-use Rattle.pool_tests.specs.Ready.{IsReady}
+use Rattle.board.specs.Seated.{IsOf, IsLoader}
 use Rattle.pool_tests.proofs.hands.given.Given as goal
 
 abbrev pub invariant-loop-count : goal.invariant-loop-count
-invariant-loop-count l = IsReady l.board l.caller
+invariant-loop-count l = record {
+  of : IsOf l.board l.caller;
+  loader : IsLoader l.caller;
+}

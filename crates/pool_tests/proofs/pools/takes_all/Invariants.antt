@@ -6,5 +6,5 @@ use Rattle.pool_tests.proofs.pools.takes_all.Given as goal
 abbrev pub invariant-loop-page : goal.invariant-loop-page
 invariant-loop-page l = record {
   ready : IsReady l.board l.caller;
-  own : 5 < l.page → HasOwn l.caller.account 5;
+  own : 16 < l.page → HasOwn l.caller.account 16;
 }

@@ -3,7 +3,8 @@ use Rattle.std.specs.Prelude.{Result}
 use Rattle.htss_defs.specs.declared.history.SearchError.{SearchError}
 use Rattle.board_core.specs.declared.entry.Entry.TheVariants.{Answered}
 use Rattle.board_core.specs.declared.entry.Reply.TheVariants.{Hits, OverBudget}
-use Rattle.searcher.specs.Searched.{IsSearched}
+use Rattle.reg_model.specs.Searches.{Counts}
+use Rattle.searcher.specs.Searched.{IsSearched, CountsRows}
 use Rattle.htss_defs.specs.Reply.{IsReply, found, over_budget}
 use Rattle.searcher.specs.Walking.{Whatever}
 use Rattle.searcher.proofs.Answered.{same_front, search_answered, search_quiet, whatever_noted}
@@ -36,3 +37,9 @@ returns-in-Err-OutOfMemory-clause-memory c = λ _. (
 
 pub returns-in-Ok-clause-reply : goal.returns-in-Ok-clause-reply
 returns-in-Ok-clause-reply c = whatever_noted c.args.board.now.shape c.fill.new.caller c.note_hits.new.caller (Answered c.args.query.now c.args.budget c.load_front-front.result (Hits c.fill.new.hits.hits) ∷ []) c.load_front-front.result (λ h. IsReply c.args.query.now c.args.budget h (found c.fill.new.hits.hits)) c.note_hits.ensures c.in-Ok.ensures.found.replies.is
+
+pub returns-in-Ok-clause-records : goal.returns-in-Ok-clause-records
+returns-in-Ok-clause-records c = whatever_noted c.args.board.now.shape c.fill.new.caller c.note_hits.new.caller (Answered c.args.query.now c.args.budget c.load_front-front.result (Hits c.fill.new.hits.hits) ∷ []) c.load_front-front.result (λ h. Counts c.args.query.now h c.fill.new.hits.records) c.note_hits.ensures c.in-Ok.ensures.found.screened
+
+pub returns-in-Ok-clause-rows : goal.returns-in-Ok-clause-rows
+returns-in-Ok-clause-rows c = whatever_noted c.args.board.now.shape c.fill.new.caller c.note_hits.new.caller (Answered c.args.query.now c.args.budget c.load_front-front.result (Hits c.fill.new.hits.hits) ∷ []) c.load_front-front.result (λ h. CountsRows h c.fill.new.hits.rows) c.note_hits.ensures c.in-Ok.ensures.found.rows

@@ -21,10 +21,10 @@ pub returns-in_default-clause-once : goal.returns-in_default-clause-once
 returns-in_default-clause-once c = let once = c.open_block.ensures.once in once_passed c.args.caller.now.account c.open_block.new.caller.account once.0 once.1 once.2
 
 pub returns-in_err-mol-clause-once : goal.returns-in_err-mol-clause-once
-returns-in_err-mol-clause-once c = let once = c.open_block.ensures.once in once_block c.args.caller.now.account c.open_block.new.caller.account c.load_block.new.caller.account once.0 _ once.1 once.2 c.load_block.ensures.once
+returns-in_err-mol-clause-once c = let once = c.open_block.ensures.once in once_block c.args.caller.now.account c.open_block.new.caller.account c.load_block.new.caller.account once.0 _ once.1 once.2 c.load_block.ensures.once.1
 
 pub returns-clause-once : goal.returns-clause-once
-returns-clause-once c = let once = c.open_block.ensures.once in once_block c.args.caller.now.account c.open_block.new.caller.account c.load_block.new.caller.account once.0 _ once.1 once.2 c.load_block.ensures.once
+returns-clause-once c = let once = c.open_block.ensures.once in once_block c.args.caller.now.account c.open_block.new.caller.account c.load_block.new.caller.account once.0 _ once.1 once.2 c.load_block.ensures.once.1
 
 pub returns-in_err-mol-clause-reads : goal.returns-in_err-mol-clause-reads
 returns-in_err-mol-clause-reads c = reads_trans c.args.caller.now.account c.open_block.new.caller.account c.load_block.new.caller.account c.open_block.ensures.reads c.load_block.ensures.reads

@@ -1,5 +1,6 @@
 use Rattle.std.proofs.Common.{◌+◌, ◌^◌, ◌<◌, sym, ◌∙◌, arith}
 use Rattle.std.specs.Mem.Slots.{slots_items, slots_len}
+use Rattle.board_core.proofs.RecordFrame.{shows_record}
 use Rattle.board.proofs.Tied.{log_place_fits}
 use Rattle.board.proofs.Closings.{event_place, log_there, log_word_read, target_small, other_kind, withdrawal_read, published, block_whole, block_begins, read_whole, read_record, publication_read}
 use Rattle.board.proofs.close.Final.event.Goals as goal
@@ -46,7 +47,7 @@ read_name-name-requires-clause-valid c =
     let w = log_word_read c.self.inside.shape (slots_items c.self.inside.closed.words) c.self.inside.last.value.me.0 c.args.self.now c.args.index c.log_place-first.result c.word-word.result c.self.view_is c.self.invariant.4 c.requires c.log_place-first.ensures c.word-word.ensures in
     let other = other_kind c.word-word.result c.kind_of.result c.kind_of.ensures c.if-kind_of-eq2.false in
     let b = published c.self.inside.shape (slots_items c.self.inside.closed.words) c.self.inside.last.value.me.0 c.args.index c.word-word.result c.target_of-target.result c.self.invariant.4 w other c.target_of-target.ensures in
-    read_record c.self.inside.shape (slots_items c.self.inside.closed.words) c.deref.result.now c.target_of-target.result b (c.deref.ensures.value ∙ c.in_ok-words.ensures)
+    shows_record _ (read_record c.self.inside.shape (slots_items c.self.inside.closed.words) c.deref.result.now c.target_of-target.result b (c.deref.ensures.value ∙ c.in_ok-words.ensures))
 
 pub read_mol-requires-clause-whole : goal.read_mol-requires-clause-whole
 read_mol-requires-clause-whole c = read_whole (slots_items c.self.inside.closed.words) c.deref-2.result.now c.target_of-target.result (c.deref-2.ensures.value ∙ c.in_ok-words.ensures)
@@ -56,7 +57,7 @@ read_mol-requires-clause-valid c =
     let w = log_word_read c.self.inside.shape (slots_items c.self.inside.closed.words) c.self.inside.last.value.me.0 c.args.self.now c.args.index c.log_place-first.result c.word-word.result c.self.view_is c.self.invariant.4 c.requires c.log_place-first.ensures c.word-word.ensures in
     let other = other_kind c.word-word.result c.kind_of.result c.kind_of.ensures c.if-kind_of-eq2.false in
     let b = published c.self.inside.shape (slots_items c.self.inside.closed.words) c.self.inside.last.value.me.0 c.args.index c.word-word.result c.target_of-target.result c.self.invariant.4 w other c.target_of-target.ensures in
-    read_record c.self.inside.shape (slots_items c.self.inside.closed.words) c.deref-2.result.now c.target_of-target.result b (c.deref-2.ensures.value ∙ c.in_ok-words.ensures)
+    shows_record _ (read_record c.self.inside.shape (slots_items c.self.inside.closed.words) c.deref-2.result.now c.target_of-target.result b (c.deref-2.ensures.value ∙ c.in_ok-words.ensures))
 
 pub returns : goal.returns
 returns c =

@@ -3,13 +3,16 @@ use Rattle.htss_defs.specs.declared.shape.Shape.{Shape}
 use Rattle.board_core.specs.declared.entry.Entry.TheVariants.{LogFull}
 use Rattle.board_core.specs.Loaded.{IsOpenMark}
 use Rattle.pub_log.specs.Locking.{IsHeld}
-use Rattle.pub_log.proofs.Calls.{read_word, still_held, called_unknown, called_freed, called_full, called_ended, grows_freed}
+use Rattle.pub_log.proofs.Calls.{read_nothing, read_word, still_held, called_unknown, called_freed, called_full, called_ended, grows_freed}
 use Rattle.pub_log.proofs.Reasons.{outside, in_front, in_log, past_mark, log_full, log_room, past_told, withdrawal_told, block_loaded, both_loaded, gone_told, may_end, known_open, unknown_at, full_at}
 use Rattle.pub_log.proofs.locked.Locked.withdraw.Goals.{else-mark-ne0-via-then-mark-ne0+else-mark-front, else-mark-ne0-via-else-mark-ne0}
 use Rattle.pub_log.proofs.locked.Locked.withdraw.Goals as goal
 
 pub free_unknown-requires-clause-unknown : goal.free_unknown-requires-clause-unknown
 free_unknown-requires-clause-unknown c = past_told _ _ _ (outside _ _ _ _ c.requires.held.seen c.self.view_is c.then-number-eq0.either)
+
+pub returns-then-number-eq0-clause-refused : goal.returns-then-number-eq0-clause-refused
+returns-then-number-eq0-clause-refused c = (c.self.view_is, called_unknown _ c.args.caller.now _ _ _ _ _ c.self.view_is (read_nothing c.args.caller.now.account) c.requires.held c.free_unknown.ensures.after)
 
 pub free_unknown-requires-then-word-eq2-clause-unknown : goal.free_unknown-requires-then-word-eq2-clause-unknown
 free_unknown-requires-then-word-eq2-clause-unknown c = let above : 0 < c.args.number = omega (arith, c.if-number-eq0.false) in

@@ -1,0 +1,15 @@
+use Rattle.std.proofs.Common.{arith}
+use Rattle.htss_defs.specs.declared.shape.Shape.{Shape}
+use Rattle.board_core.specs.declared.account.Account.{Account}
+use Rattle.board_core.specs.Sweeps.{MaySweep}
+use Rattle.board_core.proofs.AddSwept.{swept_allowed}
+use Rattle.board_core.proofs.Boards.{on_board}
+use Rattle.board.proofs.Tied.{same_shape, same_table, low_word, of_both}
+use Rattle.board.proofs.swept.note_swept.Goals as goal
+
+pub load-requires : goal.load-requires
+load-requires g c = (
+  same_table _ _ _ _ _ _ _ _ _ c.board.view_is c.caller.view_is c.requires.fits,
+  low_word _ _ _ _ _ _ 1 c.board.invariant.1 (omega arith),
+  on_board _ _ _ _ _ (λ n. n) _ _ (same_shape _ _ _ _ _ _ _ _ _ _ c.board.view_is c.caller.view_is c.board.invariant.0 c.requires.fits) (swept_allowed _ _ _ _ _ _ _ (of_both (λ (k : Shape) (a : Account). MaySweep k a g.S.Sweeps.need g.S.Sweeps.front g.S.Sweeps.rows) _ _ _ _ _ _ _ _ _ _ c.board.view_is c.caller.view_is c.board.invariant.0 c.requires.may)),
+)

@@ -1,0 +1,10 @@
+pub mod Sweep
+pub mod Seats
+pub mod Different
+pub mod Pruned
+pub mod Moment
+pub mod Visits
+pub mod Walks
+pub mod Descended
+pub mod Standing
+pub mod Answered

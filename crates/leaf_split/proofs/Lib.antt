@@ -1,0 +1,5 @@
+pub mod Arrays
+pub mod Grouped
+pub mod Built
+pub mod Facts
+pub mod Settled

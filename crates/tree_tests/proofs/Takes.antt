@@ -1,0 +1,52 @@
+-- A caller at rest stays so where it takes a page.
+use Rattle.std.proofs.Common.{◌≡◌, ℕ, List, [], ◌∷◌, ◌++◌, refl, ap, ◌∙◌, ⊎_elim}
+use Rattle.std.specs.Prelude.{Result, Ok, Err, IfOk, IfErr}
+use Rattle.htss_defs.specs.declared.shape.Shape.{Shape}
+use Rattle.board_core.specs.declared.account.Account.{Account}
+use Rattle.board_core.specs.declared.log.Holding.{Holding}
+use Rattle.board_core.specs.Loaded.{IsPage}
+use Rattle.board_core.specs.After.{after_pass}
+use Rattle.board.specs.Seated.{Place, Seated, IsOf, IsAtRest, with_stock}
+use Rattle.page_pool.specs.Taking.{all_passed, HasScanned, HasFound, IsGiven, IsRefused}
+use Rattle.page_pool.specs.declared.takes.NoPage.{NoPage}
+use Rattle.page_pool.proofs.Passing.{risen_is}
+
+-- what a caller at rest has of the lock, and what it has announced
+abbrev Resting : Type 0
+Resting = Holding × ℕ
+
+abbrev rest_in : Account → Resting
+rest_in a = (a.log.holding, a.pool.announced)
+
+abbrev rest_of : Seated → Resting
+rest_of c = rest_in c.account
+
+passed_rest : (a : Account) (ns : List ℕ) → rest_in (all_passed a ns) ≡ rest_in a
+passed_rest a [] = refl
+passed_rest a (n ∷ ns) = passed_rest (after_pass a n) ns
+
+scanned_rest : (k : Shape) (c d : Seated) → HasScanned k c d → rest_of d ≡ rest_of c
+scanned_rest k c d s = ap rest_of s.passed.after ∙ (passed_rest s.middle.account s.passed.announced ∙ ap rest_of (risen_is c s.middle s.epoch s.risen))
+
+found_rest : (k : Shape) (c d : Seated) (page : ℕ) → HasFound k c d page → rest_of d ≡ rest_of c
+found_rest k c d page f = ap rest_of f.after ∙ (ap rest_of f.taken.after ∙ scanned_rest k c f.middle f.scanned)
+
+given_rest : (k : Shape) (c d : Seated) (page : ℕ) → IsGiven k c d page → rest_of d ≡ rest_of c
+given_rest k c d page g = ⊎_elim
+    (λ (t : (d ≡ with_stock c d.stock) × (c.stock ≡ d.stock ++ page ∷ [])). ap rest_of t.0)
+    (λ (t : (c.stock ≡ []) × HasFound k c d page). found_rest k c d page t.1)
+    g.from
+
+refused_rest : (k : Shape) (c d : Seated) → IsRefused k c d → rest_of d ≡ rest_of c
+refused_rest k c d r = ap rest_of r.after ∙ (ap rest_of r.looked.after ∙ scanned_rest k c r.middle r.scanned)
+
+taken_rest : (k : Shape) (c d : Seated) (r : Result ℕ NoPage) → IfOk r (λ page. IsPage k page × IsGiven k c d page) → IfErr r (λ _. (c.stock ≡ []) × IsRefused k c d) → rest_of d ≡ rest_of c
+taken_rest k c d (Ok page) ok err = given_rest k c d page ok.1
+taken_rest k c d (Err e) ok err = refused_rest k c d err.1
+
+pub take_rests : (k : Shape) (b : Place) (c d : Seated) (r : Result ℕ NoPage) → IfOk r (λ page. IsPage k page × IsGiven k c d page) → IfErr r (λ _. (c.stock ≡ []) × IsRefused k c d) → IsOf b d → IsAtRest b c → IsAtRest b d
+take_rests k b c d r ok err of rest = let same = taken_rest k c d r ok err in record {
+  of = of;
+  free = ap (λ (x : Resting). x.0) same ∙ rest.free;
+  unpinned = ap (λ (x : Resting). x.1) same ∙ rest.unpinned;
+}
