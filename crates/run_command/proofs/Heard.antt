@@ -10,7 +10,7 @@ use Rattle.board_core.specs.Words.{Parts}
 use Rattle.board_core.specs.Histories.{history_of}
 use Rattle.board_core.specs.Loaded.{Grows}
 use Rattle.board_core.specs.Truths.{IsTrueStory}
-use Rattle.board_core.proofs.Grown.{board_before, grows_quiet}
+use Rattle.board_core.proofs.Grown.{board_before, grows_quiet, entries_same}
 use Rattle.board_core.proofs.Lists.{inside}
 use Rattle.board_jobs.specs.Groups.{with_seen}
 use Rattle.board_jobs.specs.Ends.{HaveGoneOn, IsEnd}
