@@ -2,3 +2,4 @@ pub mod Logs
 pub mod Callers
 pub mod Tallied
 pub mod Reads
+pub mod Named

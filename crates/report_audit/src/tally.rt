@@ -34,13 +34,14 @@ pub struct Tally {
     pub own: u32,
     pub before: u32,
     pub own_before: u32,
-    pub group: u32,
+    pub group: usize,
 }
 
 impl Tally {
     /// No line, in the first group.
     pub fn new() -> Tally
-        ensures { IsTallyOf [] result }
+        ensures tally { IsTallyOf [] result }
+        ensures group { result.group ≡ 1 }
     {
         Tally {
             marks: [0; 32],
@@ -55,7 +56,7 @@ impl Tally {
     }
 
     /// The lines that follow are of this group, which is no earlier one.
-    pub fn enter(&mut self, group: u32)
+    pub fn enter(&mut self, group: usize)
         requires { self.old.group ≤ group }
         ensures tally { (lines : List Line) → IsTallyOf lines self.old → IsTallyOf lines self.new }
         ensures group { self.new.group ≡ group }

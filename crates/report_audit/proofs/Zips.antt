@@ -1,0 +1,14 @@
+-- Two lists, member by member.
+use Rattle.std.proofs.Common.{◌≡◌, ℕ, ◌+◌, ◌<◌, List, [], ◌∷◌, ◌++◌, length, take, get_or, sym, ap, subst, ◌∙◌}
+use Rattle.std.specs.List.{AllZip}
+use Rattle.std.proofs.lemmas.List.{take_more}
+
+zip_push : {A B : Type 0} (R : A → B → Type 0) (xs : List A) (ys : List B) (x : A) (y : B) → AllZip R xs ys → R x y → AllZip R (xs ++ x ∷ []) (ys ++ y ∷ [])
+zip_push R [] [] x y all one = (one, tt)
+zip_push R [] (other ∷ ys) x y all one = absurd all
+zip_push R (other ∷ xs) [] x y all one = absurd all
+zip_push R (first ∷ xs) (other ∷ ys) x y all one = (all.0, zip_push R xs ys x y all.1 one)
+
+pub zip_more : {A B : Type 0} (R : A → B → Type 0) (xs : List A) (ys : List B) (i : ℕ) (x : A) (y : B) → i < length xs → x ≡ get_or xs i x → AllZip R (take i xs) ys → R x y → AllZip R (take (i + 1) xs) (ys ++ y ∷ [])
+zip_more {A = A} R xs ys i x y less is all one =
+    subst (λ (l : List A). AllZip R l (ys ++ y ∷ [])) (sym (take_more xs i x less ∙ ap (λ (z : A). take i xs ++ z ∷ []) (sym is))) (zip_push R (take i xs) ys x y all one)
