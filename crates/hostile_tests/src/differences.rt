@@ -185,6 +185,14 @@ fn load(
     add(rt, &mut story.files, file(alloc, &name, &whole)?)
 }
 
+fn push_hits(text: &mut String, alloc: Global, hits: &HitList) -> Result<(), Fail> {
+    for hit in hits.hits() {
+        let Hit { number, name, map } = hit;
+        push_hit(text, alloc, *number, map.as_slice(), name)?;
+    }
+    Ok(())
+}
+
 // A query is searched for.
 fn search(
     rt: &impl Abort,
@@ -218,10 +226,7 @@ fn search(
         return Err("a search without an answer".into());
     }
     story.blocks.push_str(&format!(in alloc; "search {line} {name} front {front}\n")?)?;
-    for hit in hits.hits() {
-        let Hit { number, name, map } = hit;
-        push_hit(&mut story.blocks, alloc, *number, map.as_slice(), name)?;
-    }
+    push_hits(&mut story.blocks, alloc, &hits)?;
     let (count, records) = (hits.hits().len(), hits.records());
     story
         .blocks
