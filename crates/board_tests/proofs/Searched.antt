@@ -5,7 +5,6 @@ use Rattle.htss_defs.specs.declared.history.SearchError.{SearchError}
 use Rattle.htss_defs.specs.declared.history.SearchError.TheVariants.{OverBudget, OutOfMemory}
 use Rattle.board_core.specs.declared.entry.Entry.{Entry}
 use Rattle.board_core.specs.declared.log.LogAccount.{LogAccount}
-use Rattle.board_core.specs.declared.pool.PoolAccount.{PoolAccount}
 use Rattle.board_core.specs.After.{fronted}
 use Rattle.board.specs.Seated.{Place, Seated, IsOf, IsAtRest}
 use Rattle.searcher.specs.Searched.{IsSearched}
@@ -14,7 +13,7 @@ rests_searched : (b : Place) (c d : Seated) (front : ℕ) (es : List Entry) → 
 rests_searched b c d front es rest of s = record {
   of = of;
   free = ap (λ (l : LogAccount). l.holding) s.log ∙ ap fronted rest.free;
-  unpinned = ap (λ (p : PoolAccount). p.announced) s.pool ∙ rest.unpinned;
+  unpinned = s.unpinned;
 }
 
 -- whatever the search answers
