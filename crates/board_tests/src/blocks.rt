@@ -1,7 +1,7 @@
 // Blocks, and what is read from them. The words that are wanted were worked out by hand.
 ghost use Rattle.std.specs.Prelude.{◌≡◌, ◌≤◌, length, slice_index};
 ghost use Rattle.board_core.specs.Blocks.{block_size, molecule_in, name_in};
-ghost use Rattle.board_core.specs.Records.{IsRecord, ShowsRecord};
+ghost use Rattle.board_core.specs.Records.{ShowsRecord};
 ghost use Rattle.block_words.specs.Writing.{size_of};
 
 use crate::made::{CARBON, molecule, named};
@@ -138,8 +138,7 @@ fn check_words<R: Abort>(rt: &R, writer: &mut BlockWriter, wanted: &[(u32, u64)]
 fn write_all(words: &mut [u64], writer: &mut BlockWriter)
     requires size { length words.old ≡ size_of writer.old.name writer.old.mol }
     ensures whole { block_size (slice_index words.new 0) ≤ length words.new }
-    ensures valid { IsRecord (slice_index words.new) }
-    ensures shows { ShowsRecord (slice_index words.new) }
+    ensures valid { ShowsRecord (slice_index words.new) }
     ensures name { name_in (slice_index words.new) ≡ writer.old.name }
     ensures molecule { molecule_in (slice_index words.new) ≡ writer.old.mol }
 {

@@ -95,7 +95,7 @@ const BEFORE_THE_LOAD: &[u8] =
     b"load 1 a.sdf\npublished 1 ethanol\npublished 2 ether\nloaded 2\nsearch 2 co.mol front 0\nhits 0 rows 0 records 0\n";
 
 const AFTER_THE_LOAD: &[u8] =
-    b"load 1 a.sdf\npublished 1 ethanol\npublished 2 ether\nloaded 2\nsearch 2 co.mol front 2\nhit 1 2,3 ethanol\nhit 2 1,2 ether\nhits 2 rows 6 records 2\n";
+    b"load 1 a.sdf\npublished 1 ethanol\npublished 2 ether\nloaded 2\nsearch 2 co.mol front 2\nhit 1 2,3 ethanol\nhit 2 1,2 ether\nhits 2 rows 4 records 2\n";
 
 #[test]
 fn a_search_sees_what_was_published_before_it(rt: HostRuntime) -> Result<(), Fail> {

@@ -85,7 +85,7 @@ struct Case {
 const FULL_LOG: Case = Case {
     script: b"load two.sdf\nsearch c.sdf\nwithdraw 1\nwithdraw 1\nwithdraw 9\nload c.sdf\nwithdraw 2\nsearch c.sdf\n",
     log: 3,
-    text: b"load 1 two.sdf\npublished 1 c\npublished 2 c\nloaded 2\nsearch 2 c.sdf front 2\nhit 1 1 c\nhit 2 1 c\nhits 2 rows 2 records 2\nwithdraw 3 1 at 3\nwithdraw 4 1 Gone 3\nwithdraw 5 9 Unknown 3\nload 6 c.sdf\nunpublished 1 LogFull 3\nloaded 0\nwithdraw 7 2 LogFull 3\nsearch 8 c.sdf front 3\nhit 2 1 c\nhits 1 rows 1 records 1\n",
+    text: b"load 1 two.sdf\npublished 1 c\npublished 2 c\nloaded 2\nsearch 2 c.sdf front 2\nhit 1 1 c\nhit 2 1 c\nhits 2 rows 2 records 2\nwithdraw 3 1 at 3\nwithdraw 4 1 Gone 3\nwithdraw 5 9 Unknown 3\nload 6 c.sdf\nunpublished 1 LogFull 3\nloaded 0\nwithdraw 7 2 LogFull 3\nsearch 8 c.sdf front 3\nhit 2 1 c\nhits 1 rows 3 records 1\n",
 };
 
 // One carbon: with a name of one byte its block has 3 + 1 + 1 + 5 words of the 45.

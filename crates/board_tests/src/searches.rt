@@ -134,7 +134,7 @@ const FIRST: Reply = Reply {
     budget: 100,
     front: Ok(1),
     hits: &[(1, b"A")],
-    rows: 1,
+    rows: 2,
     records: 1,
 };
 
@@ -142,7 +142,7 @@ const BOTH: Reply = Reply {
     budget: 100,
     front: Ok(2),
     hits: &[(1, b"A"), (2, b"B")],
-    rows: 2,
+    rows: 3,
     records: 2,
 };
 
@@ -190,7 +190,7 @@ const STEPS: [Step; 12] = [
         budget: 100,
         front: Ok(3),
         hits: &[(2, b"B")],
-        rows: 1,
+        rows: 3,
         records: 1,
     }),
     Step::Look(Reply {

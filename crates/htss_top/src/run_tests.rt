@@ -32,7 +32,7 @@ const STORED: &str =
     "load a.sdf\nsettle\nsearch co.mol\nsettle\nwithdraw 1\nwithdraw 1\nwithdraw 0\nwithdraw 3\nsettle\nsearch co.mol\n";
 
 const STORED_REPORT: &str =
-    "htss 1 loaders 1 searchers 1 pages 16 room 100 log 8 chain 65535 budget 100\nload 1 a.sdf\npublished 1 ethanol\npublished 2 ether\nloaded 2\nsearch 3 co.mol front 2\nhit 1 2,3 ethanol\nhit 2 1,2 ether\nhits 2 rows 6 records 2\nwithdraw 5 1 at 3\nwithdraw 6 1 Gone 3\nwithdraw 7 0 Unknown 3\nwithdraw 8 3 Unknown 3\nsearch 10 co.mol front 3\nhit 2 1,2 ether\nhits 1 rows 3 records 1\nlog 3\nevent 1 publish 1 3 2 ethanol\nevent 2 publish 1 3 2 ether\nevent 3 withdraw 1 1\nend\n";
+    "htss 1 loaders 1 searchers 1 pages 16 room 100 log 8 chain 65535 budget 100\nload 1 a.sdf\npublished 1 ethanol\npublished 2 ether\nloaded 2\nsearch 3 co.mol front 2\nhit 1 2,3 ethanol\nhit 2 1,2 ether\nhits 2 rows 4 records 2\nwithdraw 5 1 at 3\nwithdraw 6 1 Gone 3\nwithdraw 7 0 Unknown 3\nwithdraw 8 3 Unknown 3\nsearch 10 co.mol front 3\nhit 2 1,2 ether\nhits 1 rows 4 records 1\nlog 3\nevent 1 publish 1 3 2 ethanol\nevent 2 publish 1 3 2 ether\nevent 3 withdraw 1 1\nend\n";
 
 const STORED_WORDS: &[&str] = &[
     "run",
@@ -291,8 +291,8 @@ const RUNS: [Case; 6] = [
             "htss 1 loaders 2 searchers 2 pages 16 room 100 log 8 chain 65535 budget 10000000000\n",
             "load 1 empty.sdf\nloaded 0\nload 2 a.sdf\npublished 1 ethanol\npublished 2 ether\nloaded 2\n",
             "withdraw 4 0 Unknown 2\nwithdraw 5 3 Unknown 2\n",
-            "search 6 co.mol front 2\nhit 1 2,3 ethanol\nhit 2 1,2 ether\nhits 2 rows 6 records 2\n",
-            "search 7 co.mol front 2\nhit 1 2,3 ethanol\nhit 2 1,2 ether\nhits 2 rows 6 records 2\n",
+            "search 6 co.mol front 2\nhit 1 2,3 ethanol\nhit 2 1,2 ether\nhits 2 rows 4 records 2\n",
+            "search 7 co.mol front 2\nhit 1 2,3 ethanol\nhit 2 1,2 ether\nhits 2 rows 4 records 2\n",
             "log 2\nevent 1 publish 2 3 2 ethanol\nevent 2 publish 2 3 2 ether\nend\n",
         ],
     },
@@ -445,7 +445,7 @@ const MADE_REPORT: [Lines; 8] = [
     },
     Lines {
         each: false,
-        text: "hits # rows 50000 records #\nlog #\n",
+        text: "hits # rows ? records #\nlog #\n",
     },
     Lines {
         each: true,
@@ -489,6 +489,26 @@ const MADE: Answer = Answer {
     events: Some(2000),
 };
 
+// A report that tells of rows once: what stands before their number, the number, and what stands behind it.
+fn around_rows(report: &str) -> Option<(&str, &str, &str)> {
+    let (before, rest) = report.split_once(" rows ")?;
+    let (rows, after) = rest.split_once(" records ")?;
+    Some((before, rows, after))
+}
+
+// The report is the wanted one, and as many rows were loaded as there are hits, or more, and no more than there are atoms.
+fn tells_of_made<R: Abort>(rt: &R, report: &str, wanted: &str) -> Result<(), Fail> {
+    let (Some(told), Some(all)) = (around_rows(report), around_rows(wanted)) else {
+        return Err("no rows in a report".into());
+    };
+    assert_eq!(rt; (told.0, told.2), (all.0, all.2));
+    let Ok(rows) = told.1.parse::<u64>() else {
+        return Err("rows that are no number".into());
+    };
+    assert!(rt; (2000..=50000).contains(&rows), "{rows}");
+    Ok(())
+}
+
 #[test]
 fn made_records_are_loaded_and_found(rt: HostRuntime) -> Result<(), Fail> {
     let alloc = rt.alloc();
@@ -500,11 +520,12 @@ fn made_records_are_loaded_and_found(rt: HostRuntime) -> Result<(), Fail> {
     };
     let mut files = files_with(&rt, alloc, "load made.sdf\nsettle\nsearch ring.mol\n")?;
     add(&rt, &mut files, file(alloc, &made)?)?;
-    is_answered(
+    let mut out = MemSink::new(alloc, MADE.room, 10000, vec![in alloc]?, vec![in alloc]?)?;
+    let ended = done(&rt, alloc, files, &MADE, &mut out)?;
+    assert_eq!(rt; ended, (MADE.status, MADE.events));
+    tells_of_made(
         &rt,
-        alloc,
-        files,
-        &MADE,
-        made_report(alloc, 2000)?.as_bytes(),
+        str::from_utf8(out.bytes())?,
+        &made_report(alloc, 2000)?,
     )
 }

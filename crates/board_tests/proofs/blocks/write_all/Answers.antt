@@ -3,8 +3,8 @@ use Rattle.std.specs.Prelude.{leb}
 use Rattle.std.proofs.lemmas.Bool.Decides.{leb_tells}
 use Rattle.std.proofs.lemmas.List.{get_or-set_other, get_or-set_same, length-set}
 use Rattle.htss_defs.specs.declared.record.NamedMol.{NamedMol}
-use Rattle.board_core.proofs.RecordFrame.{shows_record}
 use Rattle.block_words.specs.Writing.{written}
+use Rattle.board_core.proofs.RecordFrame.{shows_record}
 use Rattle.block_words.proofs.Shows.{written_shows}
 use Rattle.board_tests.proofs.blocks.write_all.Goals as goal
 
@@ -16,8 +16,7 @@ returns c =
     let size = c.loop-index.invariant.size in
     let shown = shows.size in record {
       whole = omega (arith, shown, size);
-      valid = shows.record_is;
-      shows = shows_record (slice_index c.loop-index.words) shows.record_is;
+      valid = shows_record (slice_index c.loop-index.words) shows.record_is;
       name = shows.name;
       molecule = shows.molecule;
     }
