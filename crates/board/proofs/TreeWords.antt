@@ -14,7 +14,7 @@ use Rattle.board_core.specs.ClassTree.{slot_at, page_room}
 use Rattle.board_core.specs.SeatRule.{WhoFits}
 use Rattle.board_core.specs.Loaded.{IsVisit, page_word}
 use Rattle.board_core.specs.Holds.{Holds}
-use Rattle.board_core.specs.After.{visited, let_go, put_own, after_own, after_slot, after_link, after_more, after_inner}
+use Rattle.board_core.specs.After.{visited, let_go, put_own, after_own, after_slot, after_link, after_more, after_inner, after_next}
 use Rattle.board_core.specs.MarkRule.{IsAmong}
 use Rattle.board_core.proofs.PageSums.{without_else}
 use Rattle.board_core.specs.Steps.{Mine, became, MayStoreOwn, MayLoadSlot, MayLoadLink, MayLoadMore, StoresOwn, LoadsHeader, LoadsSlot, LoadsLink, LoadsMore, Claim, LeafBelow, EntryOf, CodeOf, LeafBehind, InnerBehind, after_claim, LoadsInstead, ClaimsWord}
@@ -83,10 +83,10 @@ more_same : (a : Account) (j n : ℕ) → KeepsCaller a (after_more a j n) × ((
 more_same a j zero = (record { who = refl; log = refl; room = refl }, refl)
 more_same a j (suc n) = (record { who = refl; log = refl; room = refl }, refl)
 
-pub inner_kept : (a : Account) (j n : ℕ) (stock : List ℕ) → ¬ (IsAmong stock n) → (q : ℕ) → IsAmong stock q → owns q a.pool.own ≤ owns q (after_more (after_inner a n) j n).pool.own
-inner_kept a j n stock free q among =
+pub inner_kept : (a : Account) (j n c : ℕ) (stock : List ℕ) → ¬ (IsAmong stock n) → (q : ℕ) → IsAmong stock q → owns q a.pool.own ≤ owns q (after_next a j n c).pool.own
+inner_kept a j n c stock free q among =
     let let_go = let_go_kept a.pool.own n stock free q among in
-    let same : owns q (after_more (after_inner a n) j n).pool.own ≡ owns q (after_inner a n).pool.own = ap (λ (x : PoolAccount). owns q x.own) (more_same (after_inner a n) j n).1 in
+    let same : owns q (after_next a j n c).pool.own ≡ owns q (after_inner a n).pool.own = ap (λ (x : PoolAccount). owns q x.own) (more_same (after_inner a n) j n).1 in
     let to : owns q a.pool.own ≤ owns q (after_inner a n).pool.own = let_go in omega arith
 
 pub own_seat : (seen used : ℕ) (loader : Bool) (number : ℕ) (stock : List ℕ) (next p i x : ℕ) (m n : Mine) → n ≡ became m (after_own m.0.me p i x) → HasSeat seen used loader number stock next m → HasSeat seen used loader number stock next n

@@ -4,8 +4,9 @@ ghost use Rattle.board_core.specs.ClassTree.{slot_at, header_of};
 ghost use Rattle.board_core.specs.KnownPages.{place_of};
 ghost use Rattle.board_core.specs.Loaded.{IsPage, IsVisit};
 ghost use Rattle.board_core.specs.Boards.{SomeBoard};
-ghost use Rattle.board_core.specs.Steps.{MayStoreOwn, MayLoadSlot, MayLoadLink, MayLoadMore, Claim, CodeOf, MayClaim, after_claim, MayLinkLeaf, MayClaimEntry, MayClaimCode, MayLinkMoreLeaf, MayLinkInner};
-ghost use Rattle.board_core.specs.After.{visited, after_own, after_slot, after_link, after_more, after_linked, after_inner, after_entry};
+ghost use Rattle.board_core.specs.Steps.{MayStoreOwn, MayLoadSlot, MayLoadLink, MayLoadMore, Claim, CodeOf, MayClaim, after_claim, MayLinkLeaf, MayClaimEntry, MayClaimCode, MayLinkMoreLeaf, MayLinkInner, MayLink};
+ghost use Rattle.board_core.specs.CountRule.{most_linked};
+ghost use Rattle.board_core.specs.After.{visited, after_own, after_slot, after_link, after_more, after_linked, after_next, after_entry};
 ghost use Rattle.board_core.specs.Sheets.{owns};
 ghost use Rattle.board_core.specs.MarkRule.{IsAmong};
 ghost use Rattle.board_core.specs.Rows.{entry_word, code_of, words_of, HasRow};
@@ -336,7 +337,7 @@ pub fn link_next_leaf(
 }
 
 /// Links an own inner page that has a code as the next page of a full one, where there is none. The answer is the word that it
-/// found. What then stands there was loaded.
+/// found. What then stands there was loaded, and where it is the own page, its code as well.
 pub fn link_next_inner(
     board: &Board,
     caller: &mut Caller,
@@ -349,7 +350,7 @@ pub fn link_next_inner(
     requires may { MayLinkInner board.now.shape caller.old.account number new code }
     requires page { (visited caller.old.account.tree.reached number).page ≡ page }
     requires free { ¬ (IsAmong caller.old.stock new) }
-    ensures won { result ≡ 0 → caller.new ≡ with_account caller.old (after_more (after_inner caller.old.account new) number new) }
+    ensures won { result ≡ 0 → caller.new ≡ with_account caller.old (after_next caller.old.account number new code) }
     ensures lost { result ≢ 0 → caller.new ≡ with_account caller.old (after_more caller.old.account number result) }
     ensures page { result ≢ 0 → IsPage board.now.shape result }
 {
@@ -418,13 +419,15 @@ fn begin_row_of<C: Coded>(
     ensures stored { result ≡ code_of (words_of caller.old.shape caller.old.account.who caller.old.account.room.used block) atom code }
     ensures some { result ≢ 0 }
     ensures alone { HasRow (entry_word (record { block = block; atom = atom })) caller.old.account.tree.placed → In (record { block = block; atom = atom }) caller.old.account.tree.placed }
+    ensures few { MayLink caller.new.account most_linked }
 {
     let shared = &board.table.shared;
     let at = code_place(block, head, atom, code);
     shared.load::<BeginRow<C>>(&mut caller.seat, at)
 }
 
-/// The same, and the row is begun: it may be placed from now on. Of the rows that were placed, its entry word names it alone.
+/// The same, and the row is begun: it may be placed from now on. Of the rows that were placed, its entry word names it alone. For it
+/// as many pages may be linked as for each row.
 pub fn begin_row(
     board: &Board,
     caller: &mut Caller,
@@ -441,6 +444,7 @@ pub fn begin_row(
     ensures stored { result ≡ code_of (words_of caller.old.shape caller.old.account.who caller.old.account.room.used block) atom code }
     ensures some { result ≢ 0 }
     ensures alone { HasRow (entry_word (record { block = block; atom = atom })) caller.old.account.tree.placed → In (record { block = block; atom = atom }) caller.old.account.tree.placed }
+    ensures few { MayLink caller.new.account most_linked }
 {
     begin_row_of::<Brand>(board, caller, block, head, atom, code)
 }

@@ -29,7 +29,7 @@ pub advance_pool : (k : Shape) (w : PoolWords) (vs : List View) (id e n : ℕ) (
     → PoolRule k (record w { epoch = n }) (set vs id (with_me v (after_advance v.me e)))
 advance_pool k w vs id e n v r at more come most =
     let old : ClaimFits n w.announced (claim_of k v.me) = claim_later w.epoch n w.announced w.announced (claim_of k v.me) more (λ _. refl) (claim_here k w vs id v r at) in
-    pool_claim k w vs id v r at (record w { epoch = n }) (after_advance v.me e) (λ p. refl) refl refl more most refl (λ x _ _. refl) (λ i _. refl)
+    pool_claim k w vs id v r at (record w { epoch = n }) (after_advance v.me e) (λ p. refl) refl refl record { own = refl; linked = refl; begun = omega arith } more most refl (λ x _ _. refl) (λ i _. refl)
     record { stored = old.stored; idle = old.idle; past = old.past; epochs = old.epochs; risen = come; first = old.first; low = old.low }
     (held_here k w vs id v r at)
     (scans_here k w vs id v r at)

@@ -1,5 +1,5 @@
 -- A loaded epoch is announced, or the announcement is taken back: what was reached is dropped.
-use Rattle.std.proofs.Common.{◌≡◌, ◌≢◌, ℕ, suc, ◌+◌, ◌-◌, ◌<◌, ◌≤◌, List, [], set, sym, refl, ap, ◌∙◌, arith}
+use Rattle.std.proofs.Common.{◌≡◌, ◌≢◌, ℕ, suc, ◌+◌, ◌-◌, ◌<◌, ◌≤◌, List, [], set, sym, refl, ap, ◌∙◌, arith, length}
 use mathlib.Core.Option.{some, none, some-ne-none}
 use mathlib.Core.Logic.{dite}
 use native.Mathlib.Decide.{ℕ_discrete}
@@ -58,16 +58,16 @@ alone_at k vs c a x r above within is other same =
     let two = seat_this k c x.who same in
     let all = r.callers c above within in omega arith
 
-pub announce_pool : (k : Shape) (w : PoolWords) (vs : List View) (id i e : ℕ) (v : View) (t : TreeAccount) → SeatRule k vs → PoolRule k w vs → get_elem? vs id ≡ some v → seat_of k v.me.who ≡ suc i → e ≤ w.epoch → held_in t.reached ≡ []
+pub announce_pool : (k : Shape) (w : PoolWords) (vs : List View) (id i e : ℕ) (v : View) (t : TreeAccount) → SeatRule k vs → PoolRule k w vs → get_elem? vs id ≡ some v → seat_of k v.me.who ≡ suc i → e ≤ w.epoch → held_in t.reached ≡ [] → t.begun ≡ v.me.tree.begun
     → PoolRule k (record w { announced = stored w.announced i e }) (set vs id (with_me v (announcing v.me e t)))
-announce_pool k w vs id i e v t seats r at is past bare =
+announce_pool k w vs id i e v t seats r at is past bare begun =
     let a : Account = announcing v.me e t in
     let s : Sheet = sheet_of w.states vs in
     let within : suc i ≤ made vs = was_made k vs id (suc i) v seats at is in
     let old = claim_here k w vs id v r at in
     let nobody : (F : ℕ → Type 0) → Each F (held_in t.reached) = λ F j q h. absurd (some-ne-none q (sym h ∙ ap (λ (l : List ℕ). get_elem? l j) bare)) in
     let here : (z : ℕ) → z ≡ suc i → stored w.announced i e (z - 1) ≡ e = λ z same. let place : z - 1 ≡ i = omega arith in ap (stored w.announced i e) place ∙ stored_here w.announced i e in
-    pool_claim k w vs id v r at (record w { announced = stored w.announced i e }) a (λ p. refl) refl refl (omega arith) r.epochs.most refl
+    pool_claim k w vs id v r at (record w { announced = stored w.announced i e }) a (λ p. refl) refl refl record { own = refl; linked = refl; begun = let as_long : length t.begun ≡ length v.me.tree.begun = ap length begun in omega arith } (omega arith) r.epochs.most refl
     (λ x other above. stored_else w.announced i e (seat_of k x.who - 1) (λ same. alone_at k vs (suc i) v.me x seats (omega arith) within is other (omega arith)))
     (λ j later. stored_else w.announced i e j (λ same. omega arith))
     record { stored = λ _. here (seat_of k v.me.who) is; idle = λ z. absurd (omega arith); past = past; epochs = old.epochs; risen = old.risen; first = old.first; low = old.low }
@@ -82,7 +82,7 @@ pub announce : (k : Shape) (p : Parts) (h : List Event) (vs : List View) (id i e
 announce k p h vs id i e v t r at is past bare alike pinned knows = by_pool k p (record p.pool { announced = stored p.pool.announced i e }) h vs id v (announcing v.me e t) r at
     record { who = refl; log = refl; room = refl; entries = refl; shown = refl; heads = refl; facts = refl; codes = refl; marks = refl }
     (λ q busy. busy)
-    (announce_pool k p.pool vs id i e v t r.seats r.pool at is past bare)
+    (announce_pool k p.pool vs id i e v t r.seats r.pool at is past bare alike.begun)
     (own_same p.pages vs id v (announcing v.me e t) r.own at refl)
     alike
     pinned

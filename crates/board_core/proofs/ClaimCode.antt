@@ -104,7 +104,7 @@ claim_code k p h vs id j c v r at may word =
     let row = may.claim.row in
     by_tree k p u h vs id v a r at
     record { who = refl; log = refl; room = refl; entries = refl; shown = refl; heads = refl; facts = refl; codes = refl; marks = refl } (λ q h. h) refl
-    (pool_reaches k p.pool vs id v a.tree r.pool at (λ t y e. inl (same_held k p h vs id v r at j (with_slot c x) within (slot_page c x) (slot_leaf c x) t y e)))
+    (pool_reaches k p.pool vs id v a.tree r.pool at (λ t y e. inl (same_held k p h vs id v r at j (with_slot c x) within (slot_page c x) (slot_leaf c x) t y e)) (omega arith))
     (own_linked p.pool.states w u vs id x.page (2 + 2 * i) c v a r.own at l put (omega arith) (mine (λ y. Each (OwnFits w) y.pool.own) vs id v at r.own))
     (rows_same k vs id v a r.rows at refl refl refl refl refl)
     (keeps_linked w u s z x.page (2 + 2 * i) c (λ y o. subst (λ (e : Sheet). IsLinked e y) (sym sheet) o) word put)

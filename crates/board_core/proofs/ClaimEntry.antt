@@ -1,5 +1,5 @@
 -- An entry that was 0 is exchanged for a row.
-use Rattle.std.proofs.Common.{◌≡◌, ◌≢◌, ℕ, ◌+◌, ◌*◌, ◌<◌, ◌==◌, Bool, true, false, List, [], ◌∷◌, length, set, sym, refl, ap, ◌∙◌, subst, arith, inl, ⊎_elim}
+use Rattle.std.proofs.Common.{◌≡◌, ◌≢◌, ℕ, ◌+◌, ◌*◌, ◌<◌, ◌==◌, Bool, true, false, List, [], ◌∷◌, length, set, sym, refl, ap, ◌∙◌, subst, arith, inl, ⊎_elim, ◌≤◌}
 use mathlib.Core.Option.{some, none}
 use prog.Atomic.{either}
 use lib.ListN.{get_elem?}
@@ -79,7 +79,7 @@ claim_entry k p h vs id j q v r at may word =
     } put rows) in
     by_tree k p u h vs id v a r at
     record { who = refl; log = refl; room = refl; entries = refl; shown = refl; heads = refl; facts = refl; codes = refl; marks = refl } (λ y e. in_left v.me.tree.placed (q ∷ []) y e) refl
-    (pool_reaches k p.pool vs id v a.tree r.pool at (λ t y e. inl (same_held k p h vs id v r at j (with_slot n x) within (slot_page n x) (slot_leaf n x) t y e)))
+    (pool_reaches k p.pool vs id v a.tree r.pool at (λ t y e. inl (same_held k p h vs id v r at j (with_slot n x) within (slot_page n x) (slot_leaf n x) t y e)) (omega arith))
     (own_linked p.pool.states w u vs id x.page (2 + i) n v a r.own at l put (omega arith) (mine (λ y. Each (OwnFits w) y.pool.own) vs id v at r.own))
     (rows_placed k vs id v a (q ∷ []) r.rows at refl refl refl refl (each_cons (λ y. In y v.me.tree.begun) q [] may.row.begun (each_none (λ y. In y v.me.tree.begun))))
     (keeps_linked w u s z x.page (2 + i) n (λ y o. subst (λ (e : Sheet). IsLinked e y) (sym sheet) o) word put)

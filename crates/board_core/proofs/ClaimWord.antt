@@ -1,5 +1,5 @@
 -- The five exchanges of a page word that is 0, as one: the step as the table asks, and what it leaves of the account.
-use Rattle.std.proofs.Common.{◌≡◌, ℕ, zero, suc, ◌<◌, ◌==◌, sym, refl, ◌∙◌, subst, arith}
+use Rattle.std.proofs.Common.{◌≡◌, ℕ, zero, suc, ◌<◌, ◌==◌, sym, refl, ◌∙◌, subst, arith, length}
 use mathlib.Core.Option.{none}
 use prog.Atomic.{either}
 use Rattle.atomic_table.specs.Table.{step, Allows}
@@ -7,7 +7,7 @@ use Rattle.htss_defs.specs.declared.shape.Shape.{Shape}
 use Rattle.board_core.specs.declared.account.Account.{Account}
 use Rattle.board_core.specs.Loaded.{IsPage, page_word}
 use Rattle.board_core.specs.Holds.{Holds}
-use Rattle.board_core.specs.After.{visited, after_more}
+use Rattle.board_core.specs.After.{visited, after_more, after_inner, after_slot}
 use Rattle.board_core.specs.Steps.{Mine, Claim, LeafBelow, EntryOf, CodeOf, LeafBehind, InnerBehind, IsClaimAt, MayClaim, after_claim, ClaimsWord}
 use Rattle.board_core.proofs.LinkLeaf.{leaf_allowed}
 use Rattle.board_core.proofs.ClaimEntry.{entry_allowed}
@@ -53,9 +53,13 @@ more_keeps : (a : Account) (j n : ℕ) → KeepsCaller a (after_more a j n)
 more_keeps a j zero = record { who = refl; log = refl; room = refl }
 more_keeps a j (suc n) = record { who = refl; log = refl; room = refl }
 
+slot_keeps : (a : Account) (j n : ℕ) → KeepsCaller a (after_slot a j n)
+slot_keeps a j zero = record { who = refl; log = refl; room = refl }
+slot_keeps a j (suc n) = record { who = refl; log = refl; room = refl }
+
 pub claim_keeps : (a : Account) (claim : Claim) → KeepsCaller a (after_claim a claim)
 claim_keeps a (LeafBelow j i c n q) = record { who = refl; log = refl; room = refl }
 claim_keeps a (EntryOf j q) = record { who = refl; log = refl; room = refl }
 claim_keeps a (CodeOf j c) = record { who = refl; log = refl; room = refl }
 claim_keeps a (LeafBehind j n q) = record { who = refl; log = refl; room = refl }
-claim_keeps a (InnerBehind j n c) = let m = more_keeps (record a { pool = record a.pool { own = (after_claim a (LeafBehind j n record { block = 0; atom = 0 })).pool.own } }) j n in record { who = m.who; log = m.log; room = m.room }
+claim_keeps a (InnerBehind j n c) = let m = more_keeps (after_inner a n) j n in let s = slot_keeps (after_more (after_inner a n) j n) (length a.tree.reached) c in record { who = s.who ∙ m.who; log = s.log ∙ m.log; room = s.room ∙ m.room }

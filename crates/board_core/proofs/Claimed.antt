@@ -1,6 +1,6 @@
 -- What the exchanges of a page word have in common: the own page that comes into the tree, the row that is placed, and what other own
 -- pages keep.
-use Rattle.std.proofs.Common.{◌≡◌, ◌≢◌, ℕ, zero, suc, ◌-◌, ◌<◌, ◌≤◌, List, [], ◌∷◌, ◌++◌, set, sym, refl, ap, ◌∙◌, subst, arith}
+use Rattle.std.proofs.Common.{◌≡◌, ◌≢◌, ℕ, zero, suc, ◌-◌, ◌<◌, ◌≤◌, List, [], ◌∷◌, ◌++◌, set, sym, refl, ap, ◌∙◌, subst, arith, ◌+◌, length}
 use mathlib.Core.Option.{some}
 use mathlib.Core.Logic.{dite}
 use native.Mathlib.Decide.{ℕ_discrete}
@@ -30,6 +30,10 @@ use Rattle.board_core.proofs.Everyone.{mine, moved, changed, at_most}
 use Rattle.board_core.proofs.PageSums.{where_other, without_here, without_else}
 use Rattle.board_core.proofs.RowFrame.{codes_stand, not_placed}
 use Rattle.board_core.proofs.Linked.{own_kept, Left}
+use Rattle.board_core.proofs.PoolTree.{LetsFew}
+use Rattle.board_core.proofs.CountFrame.{as_many}
+use Rattle.board_core.specs.Steps.{MayLink}
+use Rattle.board_core.specs.declared.tree.TreeAccount.{TreeAccount}
 
 -- ---- an own page whose words were stored
 
@@ -136,3 +140,11 @@ module _ (k : Shape) (p : Parts) (h : List Event) (vs : List View) (id : ℕ) (v
 -- an entry is not 0
 pub some_entry : (k : Shape) (a : Account) (q : Row) → IsOwnRow k a q → entry_word q ≢ 0
 some_entry k a q fits z = let above = fits.above in omega arith
+
+-- an own page is its owner's alone, once
+pub own_once : (k : Shape) (w : PoolWords) (vs : List View) (id : ℕ) (v : View) → PoolRule k w vs → get_elem? vs id ≡ some v → (q : ℕ) → owns q v.me.pool.own ≤ 1
+own_once k w vs id v r at q = let once = (r.pages q).once in let part : owns q v.me.pool.own ≤ (sheet_of w.states vs).owned q = at_most (λ x. owns q x.pool.own) vs id v at in omega arith
+
+-- one of them goes
+pub one_few : (k : Shape) (w : PoolWords) (vs : List View) (id n : ℕ) (v : View) (t : TreeAccount) → PoolRule k w vs → get_elem? vs id ≡ some v → MayLink v.me 1 → t.begun ≡ v.me.tree.begun → LetsFew v.me (let_go n v.me.pool.own) 1 t
+one_few k w vs id n v t r at may begun = let many = as_many n v.me.pool.own in let once = own_once k w vs id v r at n in record { less = omega arith; few = omega arith; may = may; begun = begun }

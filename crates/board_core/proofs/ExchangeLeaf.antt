@@ -39,10 +39,10 @@ use Rattle.board_core.proofs.Walk.{append_split, up_branch}
 use Rattle.board_core.proofs.PageLoads.{at_visit}
 use Rattle.board_core.proofs.LoadPage.{known_here, load_link}
 use Rattle.board_core.proofs.Linked.{put_is}
-use Rattle.board_core.proofs.Claimed.{own_apart, own_busy, own_linked}
+use Rattle.board_core.proofs.Claimed.{own_apart, own_busy, own_linked, own_once}
 use Rattle.board_core.proofs.Stepped.{still, words_moved}
 use Rattle.board_core.proofs.Treed.{by_tree, page_at, page_past, put_page, busy_page}
-use Rattle.board_core.proofs.LetGo.{all_less, all_gone, all_fit, turned_all}
+use Rattle.board_core.proofs.LetGo.{all_less, all_gone, all_fit, turned_all, all_short, all_few}
 use Rattle.board_core.proofs.RowCodes.{may_have}
 use Rattle.board_core.proofs.OwnWords.{whole_words}
 use Rattle.board_core.proofs.Places.{replaced}
@@ -193,8 +193,9 @@ module _ (k : Shape) (p : Parts) (h : List Event) (vs : List View) (id j i c l :
     exchange_won : Rule k (record p { pages = u }) h (set vs id (with_me v a))
     exchange_won = by_tree k p u h vs id v a r at
         record { who = refl; log = refl; room = refl; entries = refl; shown = refl; heads = refl; facts = refl; codes = refl; marks = refl } (λ q e. e) refl
-        (pool_links k p.pool vs id v (let_go_all numbers v.me.pool.own) (record { page = x.page; stamp = 0 } ∷ v.me.pool.parted) v.me.tree r.pool at
-        (one_parted s v.me (let_go_all numbers v.me.pool.own) x.page leaf_linked (all_less numbers v.me.pool.own)) refl)
+        (pool_links k p.pool vs id v (let_go_all numbers v.me.pool.own) (record { page = x.page; stamp = 0 } ∷ v.me.pool.parted) (length numbers) v.me.tree r.pool at
+        (one_parted s v.me (let_go_all numbers v.me.pool.own) x.page leaf_linked (all_less numbers v.me.pool.own))
+        record { less = all_short numbers v.me.pool.own; few = all_few numbers v.me.pool.own (own_once k p.pool vs id v r.pool at); may = may.few; begun = refl } refl)
         (own_linked p.pool.states w u vs id y.page (3 + 2 * i) first v a r.own at linked put (all_less numbers v.me.pool.own y.page) (all_fit w numbers v.me.pool.own (mine (λ b. Each (OwnFits w) b.pool.own) vs id v at r.own)))
         (rows_same k vs id v a r.rows at refl refl refl refl refl)
         (split_keeps k p.pool w u codes (IsOldRow k p.regions p.log.slots) vs id v a new (IsAmong numbers) y.page i x.page first r.tree r.pool at chain refl (λ n. placed_begun k vs n r.rows) may_split put turn places)

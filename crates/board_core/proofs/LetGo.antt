@@ -1,5 +1,5 @@
 -- Own pages are let go and one linked page is unlinked: which pages are linked then.
-use Rattle.std.proofs.Common.{◌≡◌, ◌≢◌, ℕ, zero, suc, ◌+◌, ◌<◌, ◌≤◌, List, [], ◌∷◌, set, sym, refl, ap, ◌∙◌, subst, arith, inl, inr, ⊎_elim}
+use Rattle.std.proofs.Common.{◌≡◌, ◌≢◌, ℕ, zero, suc, ◌+◌, ◌<◌, ◌≤◌, List, [], ◌∷◌, length, set, sym, refl, ap, ◌∙◌, subst, arith, inl, inr, ⊎_elim}
 use mathlib.Core.Option.{some, some-injective, some-ne-none}
 use mathlib.Core.Logic.{dite}
 use native.Mathlib.Decide.{ℕ_discrete}
@@ -22,12 +22,34 @@ use Rattle.board_core.proofs.PageSums.{where_same, where_other, without_here, wi
 use Rattle.board_core.proofs.OwnFrame.{each_without}
 use Rattle.board_core.proofs.Linked.{Left}
 use Rattle.board_core.proofs.Claimed.{go_less}
+use Rattle.board_core.proofs.CountFrame.{as_many}
 
 -- ---- the own pages that are left
 
 pub all_less : (ns : List ℕ) (os : List Own) (q : ℕ) → owns q (let_go_all ns os) ≤ owns q os
 all_less [] os q = omega arith
 all_less (n ∷ ns) os q = let one = go_less n (let_go_all ns os) q in let rest = all_less ns os q in omega arith
+
+-- no more go than there are numbers, where each page is there once
+pub all_short : (ns : List ℕ) (os : List Own) → length (let_go_all ns os) ≤ length os
+all_short [] os = omega arith
+all_short (n ∷ ns) os = let one = as_many n (let_go_all ns os) in let rest = all_short ns os in omega arith
+
+pub all_few : (ns : List ℕ) (os : List Own) → ((q : ℕ) → owns q os ≤ 1) → length os ≤ length (let_go_all ns os) + length ns
+all_few [] os once = omega arith
+all_few (n ∷ ns) os once = let one = as_many n (let_go_all ns os) in let less = all_less ns os n in let most = once n in let rest = all_few ns os once in omega arith
+
+-- and as many go, where the numbers differ and each is an own page's
+all_still : (ns : List ℕ) (os : List Own) (q : ℕ) → (IsAmong ns q → ⊥) → owns q (let_go_all ns os) ≡ owns q os
+all_still [] os q none = refl
+all_still (n ∷ ns) os q none = without_else (λ o. o.page) (λ _. 1) n q (λ e. none (zero, ap some e)) (let_go_all ns os) ∙ all_still ns os q (λ h. none (suc h.0, h.1))
+
+pub all_many : (ns : List ℕ) (os : List Own) → ((i j n : ℕ) → get_elem? ns i ≡ some n → get_elem? ns j ≡ some n → i ≡ j) → Each (λ n. 0 < owns n os) ns → length (let_go_all ns os) + length ns ≤ length os
+all_many [] os apart mine = omega arith
+all_many (n ∷ ns) os apart mine =
+    let rest = all_many ns os (λ i j q a b. let e = apart (suc i) (suc j) q a b in omega arith) (λ j. mine (suc j)) in
+    let still = all_still ns os n (λ h. let e = apart zero (suc h.0) n refl h.1 in absurd (omega arith)) in
+    let one = as_many n (let_go_all ns os) in let first = mine zero n refl in omega arith
 
 pub all_among : (ns : List ℕ) (os : List Own) (q : ℕ) → Left os (let_go_all ns os) q → IsAmong ns q
 all_among [] os q left = absurd (omega arith)

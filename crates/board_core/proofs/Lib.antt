@@ -15,6 +15,7 @@ pub mod LoadFrame
 pub mod RoomFrame
 pub mod FullFrame
 pub mod PageSums
+pub mod CountFrame
 pub mod PoolFrame
 pub mod EmptyFrame
 pub mod OwnFrame
@@ -97,6 +98,7 @@ pub mod RowCodes
 pub mod OwnWords
 pub mod SplitTree
 pub mod ExchangeLeaf
+pub mod FewPages
 pub mod ClaimWord
 pub mod LoadOwnCode
 pub mod LoadMet

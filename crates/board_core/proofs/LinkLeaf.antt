@@ -34,7 +34,7 @@ use Rattle.board_core.proofs.Hung.{hangs}
 use Rattle.board_core.proofs.PageLoads.{at_visit}
 use Rattle.board_core.proofs.LoadPage.{known_here, link_allowed}
 use Rattle.board_core.proofs.Linked.{keeps_linked, put_is, with_at, at_here, at_else, turned_in, one_more, link_tree, Left}
-use Rattle.board_core.proofs.Claimed.{has_one, go_less, go_one, go_new, own_apart, own_busy, own_linked, rows_placed, own_row, row_below, row_free, some_entry}
+use Rattle.board_core.proofs.Claimed.{has_one, go_less, go_one, go_new, own_apart, own_busy, own_linked, rows_placed, own_row, row_below, row_free, some_entry, one_few}
 use Rattle.board_core.proofs.Treed.{by_tree, claim_allowed, page_past, busy_page}
 use Rattle.board_core.proofs.PageLoads.{in_left}
 
@@ -80,7 +80,7 @@ link_leaf k p h vs id j i c n q v r at may word past some_n =
     } put turn (go_one n v.me.pool.own) (go_new n v.me.pool.own may.new.own) places placed_at rows in
     by_tree k p u h vs id v a r at
     record { who = refl; log = refl; room = refl; entries = refl; shown = refl; heads = refl; facts = refl; codes = refl; marks = refl } (λ y e. in_left v.me.tree.placed (q ∷ []) y e) refl
-    (pool_links k p.pool vs id v (let_go n v.me.pool.own) v.me.pool.parted a.tree r.pool at (none_parted s v.me (let_go n v.me.pool.own) (go_less n v.me.pool.own)) refl)
+    (pool_links k p.pool vs id v (let_go n v.me.pool.own) v.me.pool.parted 1 a.tree r.pool at (none_parted s v.me (let_go n v.me.pool.own) (go_less n v.me.pool.own)) (one_few k p.pool vs id n v a.tree r.pool at may.few refl) refl)
     (own_linked p.pool.states w u vs id x.page (3 + 2 * i) n v a r.own at l put (go_less n v.me.pool.own x.page) (each_without (OwnFits w) (λ o. o.page) n v.me.pool.own (mine (λ y. Each (OwnFits w) y.pool.own) vs id v at r.own)))
     (rows_placed k vs id v a (q ∷ []) r.rows at refl refl refl refl (each_cons (λ y. In y v.me.tree.begun) q [] may.row.begun (each_none (λ y. In y v.me.tree.begun))))
     (keeps_linked w u s z x.page (3 + 2 * i) n (λ y o. turn.stays y o (r.tree.tree.numbered y o)) word put)

@@ -1,5 +1,5 @@
 -- The next page of a full page is linked: a leaf that has a row, or an inner page that has a code.
-use Rattle.std.proofs.Common.{◌≡◌, ◌≢◌, ℕ, ◌+◌, ◌*◌, ◌<◌, ◌≤◌, ◌==◌, Bool, true, false, List, [], ◌∷◌, ◌++◌, length, set, sym, refl, ap, ◌∙◌, subst, arith, inl, inr, ⊎_elim}
+use Rattle.std.proofs.Common.{◌≡◌, ◌≢◌, ℕ, ◌+◌, ◌*◌, ◌<◌, ◌≤◌, ◌==◌, Bool, true, false, List, [], ◌∷◌, ◌++◌, length, set, sym, refl, ap, ◌∙◌, subst, arith, inl, inr, ⊎_elim, zero, suc, length-set, length-append}
 use mathlib.Core.Option.{some, none}
 use mathlib.Core.Logic.{dite}
 use native.Mathlib.Decide.{ℕ_discrete}
@@ -25,7 +25,7 @@ use Rattle.board_core.specs.Turns.{Turns}
 use Rattle.board_core.specs.ClassTree.{Place, HasSlot, header_of, slot_at, page_room, IsBelow, Tree}
 use Rattle.board_core.specs.KnownPages.{place_of}
 use Rattle.board_core.specs.OldRows.{IsOldRow}
-use Rattle.board_core.specs.Loaded.{page_word}
+use Rattle.board_core.specs.Loaded.{IsPage, page_word}
 use Rattle.board_core.specs.Holds.{Rule, Holds}
 use Rattle.board_core.specs.After.{visited, let_go, after_linked}
 use Rattle.board_core.specs.Steps.{Mine, Claims, LoadsMore}
@@ -40,17 +40,19 @@ use Rattle.board_core.proofs.Pooled.{LeavesLog}
 use Rattle.board_core.proofs.OwnFrame.{each_without}
 use Rattle.board_core.specs.OwnRule.{OwnFits}
 use Rattle.board_core.proofs.PageLoads.{at_visit}
-use Rattle.board_core.proofs.LoadPage.{known_here, load_more, more_allowed}
+use Rattle.board_core.proofs.LoadPage.{known_here, load_slot, load_more, more_allowed}
 use Rattle.board_core.proofs.Linked.{keeps_linked, put_is, with_at, at_here, at_else, turned_in, one_more, link_tree, Left}
-use Rattle.board_core.proofs.Claimed.{HasOne, has_one, go_less, go_one, go_new, own_apart, own_busy, own_linked, rows_placed, own_row, row_below, row_free, some_entry}
+use Rattle.board_core.proofs.Claimed.{HasOne, has_one, go_less, go_one, go_new, own_apart, own_busy, own_linked, rows_placed, own_row, row_below, row_free, some_entry, one_few}
 use Rattle.board_core.proofs.Treed.{by_tree, claim_allowed, page_past, busy_page}
 use Rattle.board_core.specs.KnownPages.{IsFullLeaf}
 use Rattle.board_core.specs.KnownRule.{Knows}
 use Rattle.board_core.specs.ClassTree.{chained}
 use Rattle.board_core.specs.NextPage.{after, MayChain}
 use Rattle.board_core.specs.Rows.{HasRow}
-use Rattle.board_core.specs.Loaded.{next_place}
-use Rattle.board_core.specs.After.{after_inner, after_more}
+use Rattle.board_core.specs.Loaded.{IsPage, next_place}
+use Rattle.board_core.specs.After.{root, with_more, next_of, after_inner, after_more, after_next}
+use Rattle.board_core.specs.declared.tree.Link.TheVariants.{To}
+use Rattle.std.proofs.lemmas.List.{get_or_push}
 use Rattle.board_core.specs.Steps.{MayLinkNext, MayLinkMoreLeaf, MayLinkInner}
 use Rattle.board_core.proofs.RowFrame.{rows_same}
 use Rattle.board_core.proofs.Seen.{has_at}
@@ -165,11 +167,11 @@ module _ (k : Shape) (p : Parts) (h : List Event) (vs : List View) (id j n word 
     }
 
     -- with the other parts
-    next_rule : LeavesLog v.me a → ((y : Row) → In y v.me.tree.placed → In y a.tree.placed) → a.tree.front ≡ v.me.tree.front → held_in a.tree.reached ≡ held_in v.me.tree.reached → a ≡ after_links v.me (let_go n v.me.pool.own) v.me.pool.parted a.tree → RowRule k (set vs id (with_me v a))
+    next_rule : LeavesLog v.me a → ((y : Row) → In y v.me.tree.placed → In y a.tree.placed) → a.tree.front ≡ v.me.tree.front → held_in a.tree.reached ≡ held_in v.me.tree.reached → a.tree.begun ≡ v.me.tree.begun → a ≡ after_links v.me (let_go n v.me.pool.own) v.me.pool.parted 1 a.tree → RowRule k (set vs id (with_me v a))
         → TreeRule k p.pool.states u codes (IsOldRow k p.regions p.log.slots) (set vs id (with_me v a)) → Rule k (record p { pages = u }) h (set vs id (with_me v a))
-    next_rule rest more front held is rows tree = by_tree k p u h vs id v a r at rest more front
+    next_rule rest more front held same is rows tree = by_tree k p u h vs id v a r at rest more front
         (subst (λ (b : Account). PoolRule k p.pool (set vs id (with_me v b))) (sym is)
-        (pool_links k p.pool vs id v (let_go n v.me.pool.own) v.me.pool.parted a.tree r.pool at (none_parted s v.me (let_go n v.me.pool.own) (go_less n v.me.pool.own)) held))
+        (pool_links k p.pool vs id v (let_go n v.me.pool.own) v.me.pool.parted 1 a.tree r.pool at (none_parted s v.me (let_go n v.me.pool.own) (go_less n v.me.pool.own)) (one_few k p.pool vs id n v a.tree r.pool at may.few same) held))
         (own_linked p.pool.states p.pages u vs id x.page 1 n v a r.own at l (put_is p.pages x.page 1 n) (less x.page)
         (subst (λ (o : List Own). Each (OwnFits p.pages) o) (sym own) (each_without (OwnFits p.pages) (λ o. o.page) n v.me.pool.own (mine (λ y. Each (OwnFits p.pages) y.pool.own) vs id v at r.own))))
         rows
@@ -212,7 +214,7 @@ link_more_leaf k p h vs id j n q v r at may zero_word past some_n =
     ))
     (λ y g. ⊎_elim (λ (o : IsPlaced vs y). inl o) (λ (o : y ≡ entry_word q). inr (is_leaf, o)) (rows.all y g)) in
     next_rule k p h vs id j n (entry_word q) v r at may.may zero_word past some_n some_word a refl refl l
-    record { who = refl; log = refl; room = refl; entries = refl; shown = refl; heads = refl; facts = refl; codes = refl; marks = refl } (λ y e. in_left v.me.tree.placed (q ∷ []) y e) refl refl refl
+    record { who = refl; log = refl; room = refl; entries = refl; shown = refl; heads = refl; facts = refl; codes = refl; marks = refl } (λ y e. in_left v.me.tree.placed (q ∷ []) y e) refl refl refl refl
     (rows_placed k vs id v a (q ∷ []) r.rows at refl refl refl refl (each_cons (λ y. In y v.me.tree.begun) q [] may.row.begun (each_none (λ y. In y v.me.tree.begun))))
     (next_tree k p h vs id j n (entry_word q) v r at may.may zero_word past some_n some_word a refl refl l refl refl refl rows.old tree (λ inner. absurd (let clash : true ≡ false = sym may.leaf ∙ inner in cc)))
 
@@ -247,7 +249,7 @@ link_inner k p h vs id j n c v r at may zero_word past some_n =
     (λ leaf. absurd (let clash : true ≡ false = sym leaf ∙ (ap (λ (P : Place). P.leaf) place ∙ may.inner) in cc))
     (λ y g. inl (⊎_elim (λ (o : IsPlaced vs y). o) (λ (o : HasRow y v.me.tree.placed). (id, v, at, 0, v.me, refl, o)) (placed_split vs id v a at y g))) in
     next_rule k p h vs id j n c v r at may.may zero_word past some_n some_word a refl refl l
-    record { who = refl; log = refl; room = refl; entries = refl; shown = refl; heads = refl; facts = refl; codes = refl; marks = refl } (λ y e. e) refl refl refl
+    record { who = refl; log = refl; room = refl; entries = refl; shown = refl; heads = refl; facts = refl; codes = refl; marks = refl } (λ y e. e) refl refl refl refl
     (rows_same k vs id v a r.rows at refl refl refl refl refl)
     (next_tree k p h vs id j n c v r at may.may zero_word past some_n some_word a refl refl l refl refl refl placed tree
     (λ _. (entry_word row, (id, v, at, 0, v.me, refl, (row, may.claim.begun, refl)), row_below k p h vs id v r at row (x.path ++ c ∷ []) may.claim.begun may.claim.below)))
@@ -274,10 +276,38 @@ link_inner_loaded k p h vs id j n c v r at may zero_word past some_n =
     record { visit = record { reached = l.visit.reached; inside = l.visit.inside }; pinned = l.pinned; full = l.full; not_zero = l.not_zero }
     (put_is p.pages x.page 1 n).here)
 
+-- and so is its code
+pub link_inner_read : (k : Shape) (p : Parts) (h : List Event) (vs : List View) (id j n c : ℕ) (v : View) → Rule k p h vs → get_elem? vs id ≡ some v → MayLinkInner k v.me j n c
+    → p.pages (visited v.me.tree.reached j).page 1 ≡ 0 → ((t : ℕ) → 16 ≤ t → p.pages n t ≡ 0) → IsPage k n
+    → Rule k (record p { pages = stored_page p.pages (visited v.me.tree.reached j).page 1 n }) h (set vs id (with_me v (after_next v.me j n c)))
+link_inner_read k p h vs id j zero c v r at may zero_word past in_table = let above = in_table.0 in absurd (omega arith)
+link_inner_read k p h vs id j (suc i) c v r at may zero_word past in_table =
+    let n : ℕ = suc i in
+    let b : Account = after_more (after_inner v.me n) j n in
+    let x : Reached = visited v.me.tree.reached j in
+    let rs : List Reached = set v.me.tree.reached j (with_more (To n) x) in
+    let u : ℕ → ℕ → ℕ = stored_page p.pages x.page 1 n in
+    let last : ℕ = length v.me.tree.reached in
+    let size : length rs ≡ last = length-set v.me.tree.reached j (with_more (To n) x) in
+    let longer : length (rs ++ next_of x n ∷ []) ≡ length rs + 1 = length-append rs (next_of x n ∷ []) in
+    let new : visited b.tree.reached last ≡ next_of x n = get_or_push rs (next_of x n) root last (omega arith) in
+    let words = has_one p.pages vs id n (header_of (next_place x)) c v r.own at may.may.new past in
+    let linked : IsLinked (sheet_of p.pool.states vs) x.page = ((known_here k p h vs id v r at).known.fits j x (at_visit v.me.tree.reached j may.may.load.visit.reached)).inner may.inner in
+    let other : n ≢ x.page = λ e. own_apart k p.pool vs id n v r.pool at may.may.new.own (subst (λ (y : ℕ). IsLinked (sheet_of p.pool.states vs) y) (sym e) linked) in
+    subst (λ (l : List View). Rule k (record p { pages = u }) h l) (set_twice vs id (with_me v b) (with_me v (after_next v.me j n c)))
+    (load_slot k (record p { pages = u }) h (set vs id (with_me v b)) id (with_me v b)
+    (link_inner_loaded k p h vs id j n c v r at may zero_word past (λ e. omega arith)) (set_here vs id (with_me v b) (inside vs id v at)) last c
+    record {
+      visit = record { reached = omega arith; inside = subst (λ (y : Reached). IsPage k y.page) (sym new) in_table };
+      unread = ap (λ (y : Reached). y.more) new;
+      room = subst (λ (y : Reached). length y.slots < page_room y.leaf) (sym new) (subst (λ (leaf : Bool). 0 < page_room leaf) (sym may.inner) (omega arith));
+    }
+    (subst (λ (y : Reached). u y.page (slot_at y.leaf (length y.slots)) ≡ c) (sym new) (subst (λ (leaf : Bool). u n (slot_at leaf 0) ≡ c) (sym may.inner) ((put_is p.pages x.page 1 n).others n 2 (inl other) ∙ words.first))))
+
 pub inner_allowed : (k : Shape) (slots id j n c at_word : ℕ) (m : Mine) → at_word ≡ page_word k (visited m.0.me.tree.reached j).page 1 → m.0.shape ≡ k → MayLinkInner k m.0.me j n c
-    → Allows (Holds k) slots id m at_word (λ f. either (f == 0) n f) (Claims (after_more (after_inner m.0.me n) j n) (LoadsMore j) (step slots at_word 0 n none) m)
+    → Allows (Holds k) slots id m at_word (λ f. either (f == 0) n f) (Claims (after_next m.0.me j n c) (LoadsMore j) (step slots at_word 0 n none) m)
 inner_allowed k slots id j n c at_word m is shape may =
-    claim_allowed k slots id (visited m.0.me.tree.reached j).page 1 n at_word m (after_more (after_inner m.0.me n) j n) (LoadsMore j) is may.may.load.visit.inside (omega arith)
-    (λ s h at word. link_inner_loaded k (parts_of k s.words) (history_of k (parts_of k s.words)) s.views id j n c m.0 h.rule at may word (page_past k s.words n)
-    (let page = busy_page k s.words n (own_busy k (parts_of k s.words).pool s.views id n m.0 h.rule.pool at may.may.new.own) in let above = page.0 in λ z. omega arith))
+    claim_allowed k slots id (visited m.0.me.tree.reached j).page 1 n at_word m (after_next m.0.me j n c) (LoadsMore j) is may.may.load.visit.inside (omega arith)
+    (λ s h at word. link_inner_read k (parts_of k s.words) (history_of k (parts_of k s.words)) s.views id j n c m.0 h.rule at may word (page_past k s.words n)
+    (busy_page k s.words n (own_busy k (parts_of k s.words).pool s.views id n m.0 h.rule.pool at may.may.new.own)))
     (more_allowed k slots id j at_word n m is shape may.may.load)

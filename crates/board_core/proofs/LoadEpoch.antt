@@ -23,7 +23,7 @@ use Rattle.board_core.specs.Steps.{Mine, LoadsEpoch}
 use Rattle.board_core.proofs.Lists.{each_snoc}
 use Rattle.board_core.proofs.Everyone.{mine, at_most, total_changed, total_same}
 use Rattle.board_core.proofs.PageSums.{no_stamp, only_total, parts_stamped, stamped_all}
-use Rattle.board_core.proofs.PoolFrame.{KeepsHeld, pool_moved, each_both, each_gives, claim_here, held_here, passed_here, all_held_kept, later_still, low_past, states_same}
+use Rattle.board_core.proofs.PoolFrame.{counts_here, KeepsHeld, pool_moved, each_both, each_gives, claim_here, held_here, passed_here, all_held_kept, later_still, low_past, states_same}
 use Rattle.board_core.proofs.Stepped.{still}
 use Rattle.board_core.proofs.OwnFrame.{own_same}
 use Rattle.board_core.proofs.Pooled.{linked_kept, tree_kept, by_pool}
@@ -82,6 +82,8 @@ epoch_pool k w vs id v r at =
       alone = λ above within. absurd (omega arith);
       states = states_same w.states vs id v b r.states at refl refl;
       who = refl;
+      counts = let fits = counts_here k w vs id v r at in record { linked = fits.linked; own = fits.own };
+      taken = omega arith;
     }
 
 pub load_epoch : (k : Shape) (p : Parts) (h : List Event) (vs : List View) (id : ℕ) (v : View) → Rule k p h vs → get_elem? vs id ≡ some v → Rule k p h (set vs id (with_me v (after_epoch v.me p.pool.epoch)))

@@ -1,5 +1,5 @@
 -- A code of an own row is loaded, and a row is begun.
-use Rattle.std.proofs.Common.{◌≡◌, ◌≢◌, ℕ, zero, suc, ◌+◌, ◌*◌, ◌-◌, ◌%◌, ◌^◌, ◌<◌, ◌≤◌, List, [], ◌∷◌, ◌++◌, set, get_or, sym, refl, ap, ◌∙◌, subst, arith, inl, ⊎_elim}
+use Rattle.std.proofs.Common.{◌≡◌, ◌≢◌, ℕ, zero, suc, ◌+◌, ◌*◌, ◌-◌, ◌%◌, ◌^◌, ◌<◌, ◌≤◌, List, [], ◌∷◌, ◌++◌, set, get_or, sym, refl, ap, ◌∙◌, subst, arith, inl, ⊎_elim, length, length-append}
 use mathlib.Core.Option.{some, none, some-ne-none}
 use lib.ListN.{get_elem?}
 use Rattle.atomic_table.specs.Table.{step, keeps, Allows}
@@ -41,7 +41,7 @@ use Rattle.board_core.proofs.PoolTree.{pool_reaches}
 use Rattle.board_core.proofs.RowFrame.{placed_begun}
 use Rattle.board_core.proofs.ChainFrame.{same_pages}
 use Rattle.board_core.proofs.Pooled.{linked_kept}
-use Rattle.board_core.proofs.PoolFrame.{sheet_same}
+use Rattle.board_core.proofs.PoolFrame.{sheet_same, counts_here}
 use Rattle.board_core.proofs.TreeFrame.{tree_moved, knows_moved, rows_stay, placed_split, linked_same}
 use Rattle.board_core.proofs.Linked.{row_more}
 use Rattle.board_core.proofs.Stepped.{still}
@@ -134,7 +134,7 @@ begin_row k p h vs id q v r at fits =
     let a : Account = after_begun v.me q in
     by_tree k p p.pages h vs id v a r at
     record { who = refl; log = refl; room = refl; entries = refl; shown = refl; heads = refl; facts = refl; codes = refl; marks = refl } (λ q h. h) refl
-    (pool_reaches k p.pool vs id v a.tree r.pool at (λ j x e. inl (j, e)))
+    (pool_reaches k p.pool vs id v a.tree r.pool at (λ j x e. inl (j, e)) (let longer : length (v.me.tree.begun ++ q ∷ []) ≡ length v.me.tree.begun + 1 = length-append v.me.tree.begun (q ∷ []) in omega arith))
     (own_same p.pages vs id v a r.own at refl)
     (begin_rows k vs id q v r.rows at fits)
     (same_pages p.pages (sheet_of p.pool.states vs) (sheet_of p.pool.states (set vs id (with_me v a))) (linked_kept p.pool.states vs id v a at (λ _. refl) (λ _. refl)))
@@ -213,7 +213,13 @@ module _ (k : Shape) (slots id place head code : ℕ) (q : Row) (m : Mine) (is :
         tt,
         still k s place id m.1 m.0 (after_begun (after_code m.0.me q code found) q) h
             (subst (λ (n : ℕ). Rule k p (history_of k p) (set s.views id (with_me m.0 (after_begun (after_code m.0.me q code n) q)))) (found_own s h at) (begin k p (history_of k p) s.views id code q m.0 h.rule at may.row_is may.code_is)),
-        record { after = refl; stored_is = told_own s h at; some_code = told_some s h at; alone = told_alone s h at },
+        record {
+          after = refl;
+          stored_is = told_own s h at;
+          some_code = told_some s h at;
+          alone = told_alone s h at;
+          few = let fits = (counts_here k p.pool s.views id m.0 h.rule.pool at).linked in let longer : length (m.0.me.tree.begun ++ q ∷ []) ≡ length m.0.me.tree.begun + 1 = length-append m.0.me.tree.begun (q ∷ []) in omega arith;
+        },
       )
 
 -- ---- the first word of an own block

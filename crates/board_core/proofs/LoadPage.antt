@@ -1,5 +1,5 @@
 -- A word of a page that was reached is loaded: a code or an entry, a link, the next page, the header.
-use Rattle.std.proofs.Common.{◌≡◌, ◌≢◌, ℕ, zero, suc, ◌+◌, ◌*◌, ◌<◌, ◌⊎◌, Bool, true, false, List, [], ◌∷◌, ◌++◌, length, set, get_or, sym, refl, ap, ◌∙◌, subst, arith, inl, inr, ⊎_elim}
+use Rattle.std.proofs.Common.{◌≡◌, ◌≢◌, ℕ, zero, suc, ◌+◌, ◌*◌, ◌<◌, ◌⊎◌, Bool, true, false, List, [], ◌∷◌, ◌++◌, length, set, get_or, sym, refl, ap, ◌∙◌, subst, arith, inl, inr, ⊎_elim, ◌≤◌}
 use mathlib.Core.Option.{some, none, some-injective, some-ne-none}
 use lib.ListN.{get_elem?}
 use Rattle.atomic_table.specs.Table.{step, keeps, Allows}
@@ -78,7 +78,7 @@ module _ (k : Shape) (p : Parts) (h : List Event) (vs : List View) (id : ℕ) (v
       → Knows p.pages (sheet_of p.pool.states vs) r.tree.place (codes_in k p.regions) (IsPlaced vs) (IsOldRow k p.regions p.log.slots) (record v.me.tree { reached = rs }) → Rule k p h (set vs id (with_me v (with_reached v.me rs)))
   knows_more rs news knows = let a : Account = with_reached v.me rs in by_tree k p p.pages h vs id v a r at
       record { who = refl; log = refl; room = refl; entries = refl; shown = refl; heads = refl; facts = refl; codes = refl; marks = refl } (λ q h. h) refl
-      (pool_reaches k p.pool vs id v (record v.me.tree { reached = rs }) r.pool at news)
+      (pool_reaches k p.pool vs id v (record v.me.tree { reached = rs }) r.pool at news (omega arith))
       (own_same p.pages vs id v a r.own at refl)
       (rows_same k vs id v a r.rows at refl refl refl refl refl)
       (same_pages p.pages (sheet_of p.pool.states vs) (sheet_of p.pool.states (set vs id (with_me v a))) (linked_kept p.pool.states vs id v a at (λ _. refl) (λ _. refl)))

@@ -31,7 +31,7 @@ use Rattle.board_core.proofs.OldMoved.{pin_here}
 pub loads_pool : (k : Shape) (w : PoolWords) (vs : List View) (id : ℕ) (v : View) (l : Loads) → PoolRule k w vs → get_elem? vs id ≡ some v → l.epochs ≡ v.me.loads.epochs → StatesStand w.states l → PoolRule k w (set vs id (with_me v (record v.me { loads = l })))
 loads_pool k w vs id v l r at epochs stand =
     let old = claim_here k w vs id v r at in
-    pool_claim k w vs id v r at w (record v.me { loads = l }) (λ p. refl) refl refl (omega arith) r.epochs.most refl (λ x _ _. refl) (λ j _. refl)
+    pool_claim k w vs id v r at w (record v.me { loads = l }) (λ p. refl) refl refl record { own = refl; linked = refl; begun = omega arith } (omega arith) r.epochs.most refl (λ x _ _. refl) (λ j _. refl)
     record { stored = old.stored; idle = old.idle; past = old.past; epochs = subst (λ (es : List ℕ). Each (IsPast w.epoch) es) (sym epochs) old.epochs; risen = old.risen; first = old.first; low = old.low }
     (held_here k w vs id v r at)
     (scans_here k w vs id v r at)

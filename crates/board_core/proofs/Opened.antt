@@ -44,6 +44,8 @@ use Rattle.board_core.specs.Sheets.{sheet_of}
 use Rattle.board_core.specs.ChainRule.{IsTrueChain}
 use Rattle.board_core.proofs.PublishedFrame.{published_open}
 use Rattle.board_core.proofs.OldMoved.{no_old}
+use mathlib.Core.Logic.{dite}
+use native.Mathlib.Decide.{ℕ_discrete}
 
 blank_at : (n i : ℕ) → get_or (zeros n) i 0 ≡ 0
 blank_at zero i = refl
@@ -109,17 +111,25 @@ small_states : (f : ℕ → ℕ) → ((i : ℕ) → f i ≤ 1) → (p : ℕ) →
 small_states f small zero = omega arith
 small_states f small (suc p) = small p
 
+one_state : (f : ℕ → ℕ) → ((i : ℕ) → f (suc i) ≡ 0) → (p : ℕ) → from_one f p ≡ 1 → p ≡ 1
+one_state f blank zero e = absurd (omega arith)
+one_state f blank (suc zero) e = refl
+one_state f blank (suc (suc i)) e = let none = blank i in absurd (omega arith)
+
 opens_pool : (k : Shape) → 0 < k.pages → OpensPool (parts_of k (opening_words k)).pool
 opens_pool k some_page =
     let count : ℕ = k.loaders + k.searchers in
     let from_root : List ℕ = 2 ∷ zeros (16 * k.pages - 1 + k.log + regions_size k) in
     let from_states : List ℕ = 1 ∷ (zeros (k.pages - 1) ++ from_root) in
     let there : drop (states_at k) (opening_words k) ≡ from_states = ap (λ n. drop n (opening_words k)) (let e : states_at k ≡ suc (suc (suc count)) = omega arith in e) ∙ drop_zeros count from_states in
-    let pages : k.pages ≡ suc (k.pages - 1) = omega arith in record {
+    let pages : k.pages ≡ suc (k.pages - 1) = omega arith in
+    let states : (p : ℕ) → from_one (part (states_at k) k.pages (opening_words k)) p ≤ 1 = small_states (part (states_at k) k.pages (opening_words k)) (λ i.
+    subst (λ (x : ℕ × List ℕ). get_or (take x.0 x.1) i 0 ≤ 1) (λ t. (sym pages t, sym there t)) (small_state (k.pages - 1) i from_root)) in record {
       epoch = refl;
       announced = λ i. take_zeros count i from_states;
-      states = small_states (part (states_at k) k.pages (opening_words k)) (λ i.
-          subst (λ (x : ℕ × List ℕ). get_or (take x.0 x.1) i 0 ≤ 1) (λ t. (sym pages t, sym there t)) (small_state (k.pages - 1) i from_root));
+      states = states;
+      free = λ p other. let small = states p in dite (ℕ_discrete (from_one (part (states_at k) k.pages (opening_words k)) p) 0) (λ e. e) (λ e. absurd (other (one_state (part (states_at k) k.pages (opening_words k))
+          (λ i. (λ t. get_or (take (pages t) (there t)) (suc i) 0) ∙ take_zeros (k.pages - 1) i from_root) p (omega arith))));
     }
 
 -- ---- the root
@@ -136,11 +146,6 @@ head_of_root : (n i : ℕ) (ws : List ℕ) → ((j : ℕ) → get_or ws j 0 ≡ 
 head_of_root zero i ws blank above = refl
 head_of_root (suc n) zero ws blank above = absurd (omega arith)
 head_of_root (suc n) (suc i) ws blank above = blank_take ws n i blank
-
-one_state : (f : ℕ → ℕ) → ((i : ℕ) → f (suc i) ≡ 0) → (p : ℕ) → from_one f p ≡ 1 → p ≡ 1
-one_state f blank zero e = absurd (omega arith)
-one_state f blank (suc zero) e = refl
-one_state f blank (suc (suc i)) e = let none = blank i in absurd (omega arith)
 
 -- the words of its tree: one page
 record OpensTree (p : Parts) : Type 0 where

@@ -55,7 +55,7 @@ pass_pool k w vs id i v r at here =
     let most = lower_found a.pool.low n (omega arith) in omega arith)
     (λ y. let later = f.1.1 above (omega arith) j q h some_stamp in omega arith))
     (each_both _ _ vs r.epochs.claims (each_both _ _ vs r.held (scans_here k w vs id v r at))) in
-    pool_claim k w vs id v r at w b (λ p. refl) refl refl (omega arith) r.epochs.most refl (λ x _ _. refl) (λ j _. refl)
+    pool_claim k w vs id v r at w b (λ p. refl) refl refl record { own = refl; linked = refl; begun = omega arith } (omega arith) r.epochs.most refl (λ x _ _. refl) (λ j _. refl)
     record { stored = old.stored; idle = old.idle; past = old.past; epochs = old.epochs; risen = old.risen; first = old.first; low = omega arith }
     (held_here k w vs id v r at)
     sees

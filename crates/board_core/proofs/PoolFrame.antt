@@ -1,5 +1,5 @@
 -- What a step leaves of the pool: one law for all kinds of step, and the page that nobody holds.
-use Rattle.std.proofs.Common.{◌≡◌, ◌≢◌, ℕ, ◌-◌, ◌<◌, ◌≤◌, ◌⊎◌, List, set, sym, refl, ap, ◌∙◌, subst, arith, inl, ⊎_elim}
+use Rattle.std.proofs.Common.{◌≡◌, ◌≢◌, ℕ, ◌-◌, ◌<◌, ◌≤◌, ◌⊎◌, List, set, sym, refl, ap, ◌∙◌, subst, arith, inl, ⊎_elim, ◌+◌, length}
 use mathlib.Core.Option.{some}
 use lib.ListN.{get_elem?}
 use Rattle.htss_defs.specs.declared.shape.Shape.{Shape}
@@ -20,6 +20,8 @@ use Rattle.board_core.specs.ScanRule.{AreLater, Passed}
 use Rattle.board_core.specs.StateRule.{StatesStand, StateRule}
 use Rattle.board_core.specs.PoolRule.{PoolRule}
 use Rattle.board_core.proofs.Everyone.{mine, moved, changed, total_same}
+use Rattle.board_core.specs.CountRule.{busy_up_to, pages_of, CountFits, CountRule}
+use Rattle.board_core.proofs.CountFrame.{counts_moved, SameCounts, same_fits}
 
 -- ---- what all accounts say of pages
 
@@ -100,6 +102,8 @@ pub record Moves (k : Shape) (w u : PoolWords) (vs : List View) (id : ℕ) (v : 
   pub alone : Passed t (claim_of k b) (claim_of k b)
   pub states : StateRule u.states (set vs id (with_me v b))
   pub who : b.who ≡ v.me.who
+  pub counts : CountFits b
+  pub taken : busy_up_to u.states k.pages + pages_of v.me ≤ busy_up_to w.states k.pages + pages_of b
 
 pub pool_moved : (k : Shape) (w u : PoolWords) (vs : List View) (id : ℕ) (v : View) (b : Account) (t : Sheet) → PoolRule k w vs → get_elem? vs id ≡ some v
     → Moves k w u vs id v b (sheet_of w.states vs) t → PoolRule k u (set vs id (with_me v b))
@@ -127,6 +131,7 @@ pool_moved k w u vs id v b t r at m =
           (each_both _ _ vs m.keeps f.1.1))
           (each_both _ _ vs r.epochs.claims (each_both _ _ vs m.passed r.scans)));
       states = m.states;
+      counts = counts_moved k w.states u.states vs id v b r.counts at m.counts m.taken;
     }
 
 -- what the rule says of one account
@@ -152,8 +157,9 @@ module _ (k : Shape) (w : PoolWords) (vs : List View) (id : ℕ) (v : View) (r :
       → ((p : ℕ) → PageFits w.epoch (sheet_of g (set vs id (with_me v b))) p)
       → EachAccount (KeepsHeld (sheet_of w.states vs) (sheet_of g (set vs id (with_me v b))) w.epoch) vs
       → StateRule g (set vs id (with_me v b))
+      → CountFits b → busy_up_to g k.pages + pages_of v.me ≤ busy_up_to w.states k.pages + pages_of b
       → PoolRule k (record w { states = g }) (set vs id (with_me v b))
-  pool_claimed g b same who pages keeps states =
+  pool_claimed g b same who pages keeps states counts taken =
       let s : Sheet = sheet_of w.states vs in
       let t : Sheet = sheet_of g (set vs id (with_me v b)) in
       let c : Claim = claim_of k v.me in
@@ -177,10 +183,15 @@ module _ (k : Shape) (w : PoolWords) (vs : List View) (id : ℕ) (v : View) (r :
         alone = subst (λ (x : Claim). Passed t x x) (sym same) (λ above within. later_still s t w.epoch c.low c.held low own_kept (alone_here above within));
         states = states;
         who = who;
+        counts = counts;
+        taken = taken;
       }
 
+  pub counts_here : CountFits v.me
+  counts_here = mine CountFits vs id v at r.counts.fits
+
   -- a step that leaves each page's numbers: what is owed of the changed claim
-  pub pool_claim : (u : PoolWords) (b : Account) → ((p : ℕ) → owns p b.pool.own ≡ owns p v.me.pool.own) → b.pool.parted ≡ v.me.pool.parted → b.who ≡ v.me.who → w.epoch ≤ u.epoch → u.epoch ≤ last_epoch → u.states ≡ w.states
+  pub pool_claim : (u : PoolWords) (b : Account) → ((p : ℕ) → owns p b.pool.own ≡ owns p v.me.pool.own) → b.pool.parted ≡ v.me.pool.parted → b.who ≡ v.me.who → SameCounts v.me b → w.epoch ≤ u.epoch → u.epoch ≤ last_epoch → u.states ≡ w.states
       → ((x : Account) → IsOther vs v.me x → 0 < seat_of k x.who → u.announced (seat_of k x.who - 1) ≡ w.announced (seat_of k x.who - 1))
       → ((i : ℕ) → made vs ≤ i → u.announced i ≡ w.announced i)
       → ClaimFits u.epoch u.announced (claim_of k b)
@@ -190,7 +201,7 @@ module _ (k : Shape) (w : PoolWords) (vs : List View) (id : ℕ) (v : View) (r :
       → Passed (sheet_of w.states vs) (claim_of k b) (claim_of k b)
       → StateRule w.states (set vs id (with_me v b))
       → PoolRule k u (set vs id (with_me v b))
-  pool_claim u b own part who more most same others blank claim held scans passed alone states =
+  pool_claim u b own part who counts more most same others blank claim held scans passed alone states =
       let s : Sheet = sheet_of w.states vs in
       pool_moved k w u vs id v b s r at record {
         sheet = sym (sheet_same w.states vs id v b at own part) ∙ ap (λ f. sheet_of f (set vs id (with_me v b))) (sym same);
@@ -207,6 +218,8 @@ module _ (k : Shape) (w : PoolWords) (vs : List View) (id : ℕ) (v : View) (r :
         alone = alone;
         states = subst (λ (f : ℕ → ℕ). StateRule f (set vs id (with_me v b))) (sym same) states;
         who = who;
+        counts = same_fits v.me b who counts counts_here;
+        taken = let busy_same : busy_up_to u.states k.pages ≡ busy_up_to w.states k.pages = ap (λ f. busy_up_to f k.pages) same in let had = counts.own in let linked = counts.linked in omega arith;
       }
 
 -- states that were loaded stand, whatever becomes of the account that has them
@@ -218,12 +231,12 @@ states_same states vs id v a r at seen lost = let own = mine (λ x. StatesStand 
 
 -- a step that touches nothing of the pool
 pub pool_same : (k : Shape) (w : PoolWords) (vs : List View) (id : ℕ) (v : View) (a : Account) → PoolRule k w vs → get_elem? vs id ≡ some v
-    → a.who ≡ v.me.who → a.pool ≡ v.me.pool → held_in a.tree.reached ≡ held_in v.me.tree.reached → a.loads.epochs ≡ v.me.loads.epochs → a.loads.states ≡ v.me.loads.states → a.loads.lost ≡ v.me.loads.lost
+    → a.who ≡ v.me.who → a.pool ≡ v.me.pool → SameCounts v.me a → held_in a.tree.reached ≡ held_in v.me.tree.reached → a.loads.epochs ≡ v.me.loads.epochs → a.loads.states ≡ v.me.loads.states → a.loads.lost ≡ v.me.loads.lost
     → PoolRule k w (set vs id (with_me v a))
-pool_same k w vs id v a r at who pool held epochs states lost =
+pool_same k w vs id v a r at who pool counts held epochs states lost =
     let s : Sheet = sheet_of w.states vs in
     let same : claim_of k a ≡ claim_of k v.me = λ i. record { seat = seat_of k (who i); announced = (pool i).announced; epochs = epochs i; risen = (pool i).risen; first = (pool i).first; low = (pool i).low; passed = (pool i).passed; held = held i } in
-    pool_claim k w vs id v r at w a (λ p. ap (λ (x : PoolAccount). owns p x.own) pool) (ap (λ (x : PoolAccount). x.parted) pool) who (omega arith) r.epochs.most refl (λ x _ _. refl) (λ i _. refl)
+    pool_claim k w vs id v r at w a (λ p. ap (λ (x : PoolAccount). owns p x.own) pool) (ap (λ (x : PoolAccount). x.parted) pool) who counts (omega arith) r.epochs.most refl (λ x _ _. refl) (λ i _. refl)
     (subst (λ (x : Claim). ClaimFits w.epoch w.announced x) (sym same) (claim_here k w vs id v r at))
     (subst (λ (x : Claim). Each (HeldFits s x.announced) x.held) (sym same) (held_here k w vs id v r at))
     (subst (λ (x : Claim). EachAccount (λ y. Passed s x (claim_of k y)) vs) (sym same) (scans_here k w vs id v r at))

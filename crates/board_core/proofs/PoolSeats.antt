@@ -9,7 +9,7 @@ use Rattle.board_core.specs.declared.account.Who.TheVariants.{Opener, Note, Gone
 use Rattle.board_core.specs.declared.loads.Loads.{Loads}
 use Rattle.board_core.specs.Each.{Each, sum_of}
 use Rattle.board_core.specs.Words.{PoolWords}
-use Rattle.board_core.specs.Accounts.{account, no_loads, with_me, keeping, gone, view, opener, accounts_in, caller_after, EachAccount, total, seat_of, made_by}
+use Rattle.board_core.specs.Accounts.{account, no_loads, with_me, keeping, gone, view, opener, accounts_in, caller_after, EachAccount, total, seat_of, made_by, is_loader}
 use Rattle.board_core.specs.Sheets.{Sheet, sheet_of, stamp_of, owns, parts, stamps}
 use Rattle.board_core.specs.SeatRule.{SeatRule, made}
 use Rattle.board_core.specs.EpochRule.{Claim, claim_of, IsPast, ClaimFits}
@@ -23,6 +23,8 @@ use Rattle.board_core.proofs.Lists.{each_none, each_cons}
 use Rattle.board_core.proofs.Everyone.{mine, changed, total_same, total_changed, each_more, total_more, each_left, total_left, each_gathered, total_gathered}
 use Rattle.board_core.proofs.Callers.{seat_after, made_is}
 use Rattle.board_core.proofs.PoolFrame.{sheet_is, each_gives}
+use Rattle.board_core.specs.CountRule.{pages_of, CountRule}
+use Rattle.board_core.proofs.CountFrame.{counts_note, counts_caller, counts_left, counts_gather, counts_open}
 
 -- ---- an account that knows a front and no more
 
@@ -47,8 +49,8 @@ EachClaim F k vs = EachAccount (λ x. F (claim_of k x) x.loads) vs
 
 -- views that have the claims of others, and some that are blank
 pool_seats : (k : Shape) (w : PoolWords) (vs ws : List View) (seat : ℕ) → sheet_of w.states ws ≡ sheet_of w.states vs → made vs ≤ made ws → (0 < seat → w.announced (seat - 1) ≡ 0)
-    → ((F : Claim → Loads → Type 0) → F (blank seat) no_loads → EachClaim F k vs → EachClaim F k ws) → PoolRule k w vs → PoolRule k w ws
-pool_seats k w vs ws seat sheet more none lift r = let s : Sheet = sheet_of w.states vs in record {
+    → ((F : Claim → Loads → Type 0) → F (blank seat) no_loads → EachClaim F k vs → EachClaim F k ws) → PoolRule k w vs → CountRule k w.states ws → PoolRule k w ws
+pool_seats k w vs ws seat sheet more none lift r counts = let s : Sheet = sheet_of w.states vs in record {
   epochs = record {
     above = r.epochs.above;
     most = r.epochs.most;
@@ -61,6 +63,7 @@ pool_seats k w vs ws seat sheet more none lift r = let s : Sheet = sheet_of w.st
       (lift (λ c _. EachClaim (λ d _. Passed s c d) k ws) (λ j u at i x there. blank_scan s seat (claim_of k x))
       (each_gives (λ x. EachClaim (λ d _. Passed s (claim_of k x) d) k vs) (λ x. EachClaim (λ d _. Passed s (claim_of k x) d) k ws) vs (λ x f. lift (λ d _. Passed s (claim_of k x) d) (blank_held s seat (claim_of k x)) f) r.scans));
   states = lift (λ _ l. StatesStand w.states l) (blank_states w.states) r.states;
+  counts = counts;
 }
 
 -- ---- a view was added
@@ -102,7 +105,7 @@ pool_note k w vs shape front r =
     pool_seats k w vs (vs ++ n ∷ []) 0
     (sheet_is w.states vs (vs ++ n ∷ []) (λ p. count (λ x. owns p x.pool.own) refl) (λ p. count (λ x. parts p x.pool.parted) refl) (λ p. count (λ x. stamps p x.pool.parted) refl))
     (let same = count (λ x. made_by x.who) refl in omega arith) (λ above. absurd (omega arith))
-    (λ F new all. each_more (λ x. F (claim_of k x) x.loads) vs (account Note front) n refl refl new all) r
+    (λ F new all. each_more (λ x. F (claim_of k x) x.loads) vs (account Note front) n refl refl new all) r (counts_note k w.states vs shape front r.counts)
 
 pub pool_caller : (k : Shape) (w : PoolWords) (vs : List View) (id m : ℕ) (v : View) → SeatRule k vs → PoolRule k w vs → get_elem? vs id ≡ some v → v.me.who ≡ Opener m
     → PoolRule k w (set vs id (with_me v (after_made v.me)) ++ view k (account (caller_after k m) 0) ∷ [])
@@ -124,6 +127,7 @@ pool_caller k w vs id m v seats r at is =
     (λ F new all. each_more (λ x. F (claim_of k x) x.loads) mid (account (caller_after k m) 0) n refl refl new
     (changed (λ x. F (claim_of k x) x.loads) vs id v a at
     (subst (λ (z : ℕ). F (record (claim_of k v.me) { seat = z }) v.me.loads) (ap (seat_of k) is) (mine (λ x. F (claim_of k x) x.loads) vs id v at all)) all)) r
+    (counts_caller k w.states vs id m v r.counts at (ap is_loader is))
 
 -- ---- a view became gone
 
@@ -138,6 +142,7 @@ pool_note_goes k w vs other front u r there is =
     (sheet_is w.states vs ws (λ p. count (λ x. owns p x.pool.own) refl refl) (λ p. count (λ x. parts p x.pool.parted) refl refl) (λ p. count (λ x. stamps p x.pool.parted) refl refl))
     (let same = count (λ x. made_by x.who) refl refl in omega arith) (λ above. absurd (omega arith))
     (λ F new all. each_left (λ x. F (claim_of k x) x.loads) vs other new all) r
+    (counts_left k w.states vs other u r.counts there (ap (λ (x : View). sum_of pages_of (accounts_in x)) is))
 
 pub pool_gather : (k : Shape) (w : PoolWords) (vs : List View) (id other : ℕ) (v u : View) → PoolRule k w vs → get_elem? vs id ≡ some v → ¬ (other ≡ id) → get_elem? vs other ≡ some u → PoolRule k w (set (set vs id (keeping v u)) other gone)
 pool_gather k w vs id other v u r at apart there =
@@ -147,6 +152,7 @@ pool_gather k w vs id other v u r at apart there =
     (sheet_is w.states vs ws (λ p. count (λ x. owns p x.pool.own) refl) (λ p. count (λ x. parts p x.pool.parted) refl) (λ p. count (λ x. stamps p x.pool.parted) refl))
     (let same = count (λ x. made_by x.who) refl in omega arith) (λ above. absurd (omega arith))
     (λ F new all. each_gathered (λ x. F (claim_of k x) x.loads) vs id other v u at there new all) r
+    (counts_gather k w.states vs id other v u r.counts at apart there)
 
 -- ---- a board as it is opened
 
@@ -155,6 +161,7 @@ pub record OpensPool (w : PoolWords) : Type 0 where
   pub epoch : w.epoch ≡ 1
   pub announced : (i : ℕ) → w.announced i ≡ 0
   pub states : (p : ℕ) → w.states p ≤ 1
+  pub free : (p : ℕ) → p ≢ 1 → w.states p ≡ 0
 
 only : (F : Account → Type 0) (k : Shape) (a : Account) → F a → EachAccount F (view k a ∷ [])
 only F k a f = each_cons (λ (u : View). Each F (accounts_in u)) (view k a) [] (each_cons F a [] f (each_none F)) (each_none (λ (u : View). Each F (accounts_in u)))
@@ -174,4 +181,5 @@ pool_open k w o =
       held = only (λ x. Each (HeldFits s x.pool.announced) _) k a (each_none (HeldFits s 0));
       scans = only (λ x. EachAccount (λ y. Passed s (claim_of k x) (claim_of k y)) (opener k ∷ [])) k a (only (λ y. Passed s (blank 0) (claim_of k y)) k a (blank_scan s 0 (blank 0)));
       states = only (λ x. StatesStand w.states x.loads) k a (blank_states w.states);
+      counts = counts_open k w.states o.free;
     }

@@ -1,5 +1,5 @@
 -- The pool under steps of the tree: pages that are reached, linked and unlinked. No step does this yet.
-use Rattle.std.proofs.Common.{◌≡◌, ℕ, ◌+◌, ◌<◌, ◌≤◌, ◌⊎◌, List, ◌∷◌, set, sym, refl, ap, subst, arith, inl, inr, ⊎_elim}
+use Rattle.std.proofs.Common.{◌≡◌, ℕ, ◌+◌, ◌<◌, ◌≤◌, ◌⊎◌, List, ◌∷◌, length, set, sym, refl, ap, subst, arith, inl, inr, ⊎_elim}
 use mathlib.Core.Option.{some}
 use mathlib.Core.Logic.{dite}
 use native.Mathlib.Decide.{ℕ_discrete}
@@ -20,9 +20,11 @@ use Rattle.board_core.specs.HeldRule.{HeldFits}
 use Rattle.board_core.specs.ScanRule.{AreLater, Passed}
 use Rattle.board_core.specs.PoolRule.{PoolRule}
 use Rattle.board_core.specs.MarkRule.{IsAmong}
+use Rattle.board_core.specs.Steps.{MayLink}
+use Rattle.board_core.specs.After.{more_linked}
 use Rattle.board_core.proofs.Everyone.{total_same, total_changed}
 use Rattle.board_core.proofs.PageSums.{where_same, where_other, no_stamps}
-use Rattle.board_core.proofs.PoolFrame.{KeepsHeld, each_gives, pool_claimed, pool_claim, claim_here, held_here, scans_here, passed_here, alone_here, states_same}
+use Rattle.board_core.proofs.PoolFrame.{KeepsHeld, each_gives, pool_claimed, pool_claim, counts_here, claim_here, held_here, scans_here, passed_here, alone_here, states_same}
 
 -- a linked page has no stamp
 pub linked_plain : (states : ℕ → ℕ) (vs : List View) (p : ℕ) → IsLinked (sheet_of states vs) p → stamp_of (sheet_of states vs) p ≡ 0
@@ -34,13 +36,13 @@ linked_held states vs n p pinned l = let plain = linked_plain states vs p l in l
 -- a word of a page was loaded: what is newly held is linked
 pub pool_reaches : (k : Shape) (w : PoolWords) (vs : List View) (id : ℕ) (v : View) (t : TreeAccount) → PoolRule k w vs → get_elem? vs id ≡ some v
     → ((j q : ℕ) → get_elem? (held_in t.reached) j ≡ some q → IsAmong (held_in v.me.tree.reached) q ⊎ ((0 < v.me.pool.announced) × IsLinked (sheet_of w.states vs) q))
-    → PoolRule k w (set vs id (with_me v (record v.me { tree = t })))
-pool_reaches k w vs id v t r at news =
+    → length v.me.tree.begun ≤ length t.begun → PoolRule k w (set vs id (with_me v (record v.me { tree = t })))
+pool_reaches k w vs id v t r at news begun =
     let s : Sheet = sheet_of w.states vs in
     let old = claim_here k w vs id v r at in
     let by : (n : ℕ) → AreLater s n (held_in v.me.tree.reached) → AreLater s n (held_in t.reached) = λ n o j q h above.
     ⊎_elim (λ (y : IsAmong (held_in v.me.tree.reached) q). o y.0 q y.1 above) (λ (y : (0 < v.me.pool.announced) × IsLinked s q). let plain = linked_plain w.states vs q y.1 in absurd (omega arith)) (news j q h) in
-    pool_claim k w vs id v r at w (record v.me { tree = t }) (λ p. refl) refl refl (omega arith) r.epochs.most refl (λ x _ _. refl) (λ j _. refl)
+    pool_claim k w vs id v r at w (record v.me { tree = t }) (λ p. refl) refl refl record { own = refl; linked = refl; begun = begun } (omega arith) r.epochs.most refl (λ x _ _. refl) (λ j _. refl)
     record { stored = old.stored; idle = old.idle; past = old.past; epochs = old.epochs; risen = old.risen; first = old.first; low = old.low }
     (λ j q h. ⊎_elim (λ (y : IsAmong (held_in v.me.tree.reached) q). held_here k w vs id v r at y.0 q y.1) (λ (y : (0 < v.me.pool.announced) × IsLinked s q). linked_held w.states vs v.me.pool.announced q y.0 y.1) (news j q h))
     (scans_here k w vs id v r at)
@@ -54,14 +56,21 @@ pub record LetsGo (s : Sheet) (a : Account) (os : List Own) (us : List Parted) :
   pub parted : (q : ℕ) → (parts q us ≡ parts q a.pool.parted) ⊎ (IsLinked s q × (parts q us ≡ parts q a.pool.parted + 1))
   pub stamps : (q : ℕ) → stamps q us ≡ stamps q a.pool.parted
 
-abbrev pub after_links : Account → List Own → List Parted → TreeAccount → Account
-after_links a os us t = record a { pool = record a.pool { own = os; parted = us }; tree = t }
+abbrev pub after_links : Account → List Own → List Parted → ℕ → TreeAccount → Account
+after_links a os us n t = record a { pool = record a.pool { own = os; parted = us }; counts = more_linked n a.counts; tree = t }
 
-pub pool_links : (k : Shape) (w : PoolWords) (vs : List View) (id : ℕ) (v : View) (os : List Own) (us : List Parted) (t : TreeAccount) → PoolRule k w vs → get_elem? vs id ≡ some v
-    → LetsGo (sheet_of w.states vs) v.me os us → held_in t.reached ≡ held_in v.me.tree.reached
-    → PoolRule k w (set vs id (with_me v (after_links v.me os us t)))
-pool_links k w vs id v os us t r at go same =
-    let b : Account = after_links v.me os us t in
+-- n pages at most leave the own ones, for insertions that were begun
+pub record LetsFew (a : Account) (os : List Own) (n : ℕ) (t : TreeAccount) : Type 0 where
+  pub less : length os ≤ length a.pool.own
+  pub few : length a.pool.own ≤ length os + n
+  pub may : MayLink a n
+  pub begun : t.begun ≡ a.tree.begun
+
+pub pool_links : (k : Shape) (w : PoolWords) (vs : List View) (id : ℕ) (v : View) (os : List Own) (us : List Parted) (n : ℕ) (t : TreeAccount) → PoolRule k w vs → get_elem? vs id ≡ some v
+    → LetsGo (sheet_of w.states vs) v.me os us → LetsFew v.me os n t → held_in t.reached ≡ held_in v.me.tree.reached
+    → PoolRule k w (set vs id (with_me v (after_links v.me os us n t)))
+pool_links k w vs id v os us n t r at go few same =
+    let b : Account = after_links v.me os us n t in
     let s : Sheet = sheet_of w.states vs in
     let z : Sheet = sheet_of w.states (set vs id (with_me v b)) in
     let owned_less : (q : ℕ) → z.owned q ≤ s.owned q = λ q. let e : z.owned q + owns q v.me.pool.own ≡ s.owned q + owns q os = total_changed (λ x. owns q x.pool.own) vs id v b at in let less = go.own q in omega arith in
@@ -78,6 +87,9 @@ pool_links k w vs id v os us t r at go same =
     (λ x f i q h. let fits = f i q h in let less = owned_less q in let d = stamped_same q in let none : s.owned q ≡ 0 = fits.owned in
     record { busy = fits.busy; owned = omega arith; later = inl (omega arith) }) r.held)
     (states_same w.states vs id v b r.states at refl refl)
+    (let old = counts_here k w vs id v r at in let own = old.own in let less = few.less in let may = few.may in let begun : length t.begun ≡ length v.me.tree.begun = ap length few.begun in
+    record { linked = omega arith; own = omega arith })
+    (let most = few.few in omega arith)
 
 -- one page that is unlinked, without a stamp
 pub one_parted : (s : Sheet) (a : Account) (os : List Own) (p : ℕ) → IsLinked s p → ((q : ℕ) → owns q os ≤ owns q a.pool.own) → LetsGo s a os (record { page = p; stamp = 0 } ∷ a.pool.parted)
@@ -91,12 +103,12 @@ pub none_parted : (s : Sheet) (a : Account) (os : List Own) → ((q : ℕ) → o
 none_parted s a os less = record { own = less; parted = λ q. inl refl; stamps = λ q. refl }
 
 -- a word of an own page was stored: the same pages are the caller's own
-pub pool_stored : (k : Shape) (w : PoolWords) (vs : List View) (id : ℕ) (v : View) (os : List Own) → PoolRule k w vs → get_elem? vs id ≡ some v → ((p : ℕ) → owns p os ≡ owns p v.me.pool.own)
+pub pool_stored : (k : Shape) (w : PoolWords) (vs : List View) (id : ℕ) (v : View) (os : List Own) → PoolRule k w vs → get_elem? vs id ≡ some v → ((p : ℕ) → owns p os ≡ owns p v.me.pool.own) → length os ≡ length v.me.pool.own
     → PoolRule k w (set vs id (with_me v (record v.me { pool = record v.me.pool { own = os } })))
-pool_stored k w vs id v os r at same =
+pool_stored k w vs id v os r at same size =
     let b : Account = record v.me { pool = record v.me.pool { own = os } } in
     let old = claim_here k w vs id v r at in
-    pool_claim k w vs id v r at w b same refl refl (omega arith) r.epochs.most refl (λ x _ _. refl) (λ j _. refl)
+    pool_claim k w vs id v r at w b same refl refl record { own = size; linked = refl; begun = omega arith } (omega arith) r.epochs.most refl (λ x _ _. refl) (λ j _. refl)
     record { stored = old.stored; idle = old.idle; past = old.past; epochs = old.epochs; risen = old.risen; first = old.first; low = old.low }
     (held_here k w vs id v r at) (scans_here k w vs id v r at) (passed_here k w vs id v r at) (alone_here k w vs id v r at)
     (states_same w.states vs id v b r.states at refl refl)

@@ -23,7 +23,7 @@ use Rattle.board_core.specs.After.{after_retire}
 use Rattle.board_core.specs.Steps.{Mine, MayRetire, Retires}
 use Rattle.board_core.proofs.Everyone.{at_most, total_same, total_changed}
 use Rattle.board_core.proofs.PageSums.{no_stamp, no_stamps, only_total, without_here, without_else}
-use Rattle.board_core.proofs.PoolFrame.{Keeps, KeepsHeld, each_gives, pool_claimed}
+use Rattle.board_core.proofs.PoolFrame.{Keeps, KeepsHeld, each_gives, pool_claimed, counts_here}
 use Rattle.board_core.proofs.Stepped.{words_moved}
 use Rattle.board_core.proofs.Stored.{stored_here, stored_else}
 use Rattle.board_core.proofs.OwnFrame.{own_same}
@@ -34,6 +34,8 @@ use Rattle.board_core.specs.Rows.{codes_in}
 use Rattle.board_core.specs.OldRows.{IsOldRow}
 use Rattle.board_core.specs.TreeRule.{TreeRule}
 use Rattle.board_core.proofs.OldMoved.{pin_here}
+use Rattle.board_core.proofs.CountFrame.{no_busier, busy_some}
+use Rattle.board_core.specs.CountRule.{busy}
 
 -- ---- whose the page is
 
@@ -99,6 +101,11 @@ retire_pool k w vs id p n v r at may =
     (λ m. page_kept s t w.epoch x.pool.announced q (stored_else w.states p (n + 1) q m) (owned_same q m) (stamped_same q m) (f i q h)))
     r.held)
     (states_kept w.states p (n + 1) vs id v b (omega arith) r.states at refl)
+    (let fits = counts_here k w vs id v r at in record { linked = fits.linked; own = fits.own })
+    (let as_many = no_busier w.states (stored w.states p (n + 1)) (λ q. dite (ℕ_discrete q p)
+    (λ y. let some_now = busy_some (stored w.states p (n + 1) q) (never_free w.states p (n + 1) (omega arith) q (λ z. let sum : s.parted p ≡ 1 = is.one in let one : w.states p ≡ 1 = (r.pages p).busy (omega arith) in let e : w.states q ≡ w.states p = ap w.states y in omega arith)) in
+    let sum : s.parted p ≡ 1 = is.one in let one : w.states p ≡ 1 = (r.pages p).busy (omega arith) in let before : busy (w.states q) ≡ 1 = ap busy (ap w.states y ∙ one) in omega arith)
+    (λ m. let e : busy (stored w.states p (n + 1) q) ≡ busy (w.states q) = ap busy (stored_else w.states p (n + 1) q m) in omega arith)) k.pages in omega arith)
 
 -- pages of the tree stay in it
 retire_linked : (k : Shape) (w : PoolWords) (vs : List View) (id q n : ℕ) (v : View) → PoolRule k w vs → get_elem? vs id ≡ some v → MayRetire k v.me q n

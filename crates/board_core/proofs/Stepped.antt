@@ -1,5 +1,5 @@
 -- What all steps of the log owe the table: the parts of the rule that they leave alone, and the whole from its parts.
-use Rattle.std.proofs.Common.{◌≡◌, ℕ, ◌+◌, ◌-◌, List, set, get_or, sym, ap, ◌∙◌, subst, length-set, arith}
+use Rattle.std.proofs.Common.{◌≡◌, ℕ, ◌+◌, ◌-◌, List, length, set, get_or, sym, ap, ◌∙◌, subst, length-set, arith}
 use mathlib.Core.Option.{some}
 use lib.ListN.{get_elem?}
 use lib.Seq.{set-get_or}
@@ -30,6 +30,9 @@ use Rattle.board_core.specs.Held.{held_in}
 use Rattle.board_core.specs.declared.tree.TreeAccount.{TreeAccount}
 use Rattle.board_core.specs.Words.{PoolWords, regions_at}
 use Rattle.board_core.proofs.PoolFrame.{pool_same}
+use Rattle.board_core.specs.declared.tree.Counts.{Counts}
+use Rattle.board_core.specs.CountRule.{insertions_of}
+use Rattle.board_core.proofs.CountFrame.{SameCounts}
 use Rattle.board_core.specs.RoomRule.{store_of, RoomRule}
 use Rattle.board_core.specs.MarkRule.{MarkRule}
 use Rattle.board_core.specs.RecordRule.{RecordRule}
@@ -72,6 +75,13 @@ pub record LeavesRest (p q : Parts) (a b : Account) : Type 0 where
   pub states : b.loads.states ≡ a.loads.states
   pub lost : b.loads.lost ≡ a.loads.lost
 
+same_counts : (p q : Parts) (a b : Account) → LeavesRest p q a b → SameCounts a b
+same_counts p q a b rest = record {
+  own = ap (λ (x : PoolAccount). length x.own) rest.pool;
+  linked = ap (λ (x : Counts). x.linked) rest.counts;
+  begun = let e : insertions_of b ≡ insertions_of a = ap (λ (t : TreeAccount). length t.begun) rest.tree in omega arith;
+}
+
 -- and the words of the regions and the log but for the lock, and what is known of them
 pub record LeavesRegions (p q : Parts) (a b : Account) : Type 0 where
   pub words : q.regions ≡ p.regions
@@ -94,7 +104,7 @@ by_region k p q h g vs id v a r at rest log stories full empty chains swept load
   records = records;
   facts = facts;
   pool = subst (λ (w : PoolWords). PoolRule k w (set vs id (with_me v a))) (sym rest.pool_words)
-      (pool_same k p.pool vs id v a r.pool at rest.who rest.pool (ap (λ (t : TreeAccount). held_in t.reached) rest.tree) rest.epochs rest.states rest.lost);
+      (pool_same k p.pool vs id v a r.pool at rest.who rest.pool (same_counts p q v.me a rest) (ap (λ (t : TreeAccount). held_in t.reached) rest.tree) rest.epochs rest.states rest.lost);
   own = subst (λ (w : ℕ → ℕ → ℕ). OwnRule w (set vs id (with_me v a))) (sym rest.page_words) (own_same p.pages vs id v a r.own at (ap (λ (x : PoolAccount). x.own) rest.pool));
   empty = empty;
   rows = rows;

@@ -55,6 +55,10 @@ pub owns_put : (p i n q : ℕ) (os : List Own) → owns q (put_own p i n os) ≡
 owns_put p i n q [] = refl
 owns_put p i n q (o ∷ os) = let rest = owns_put p i n q os in let page : where_page q (put_if p i n o).page 1 ≡ where_page q o.page 1 = ap (λ x. where_page q x 1) (page_if (eqb p o.page) i n o) in omega arith
 
+pub length_put : (p i n : ℕ) (os : List Own) → length (put_own p i n os) ≡ length os
+length_put p i n [] = refl
+length_put p i n (o ∷ os) = ap suc (length_put p i n os)
+
 at_put : (p i n : ℕ) (os : List Own) (j : ℕ) (x : Own) → get_elem? (put_own p i n os) j ≡ some x → (o : Own) × (get_elem? os j ≡ some o) × (put_if p i n o ≡ x)
 at_put p i n [] j x e = absurd (some-ne-none x (sym e))
 at_put p i n (o ∷ os) zero x e = (o, refl, some-injective (put_if p i n o) x e)
@@ -143,7 +147,7 @@ store_own k p h vs id q i n v r at may =
     let same : (x : ℕ) → owns x a.pool.own ≡ owns x v.me.pool.own = λ x. owns_put q i n x v.me.pool.own in
     by_tree k p (stored_page p.pages q i n) h vs id v a r at
     record { who = refl; log = refl; room = refl; entries = refl; shown = refl; heads = refl; facts = refl; codes = refl; marks = refl } (λ q h. h) refl
-    (pool_stored k p.pool vs id v a.pool.own r.pool at same)
+    (pool_stored k p.pool vs id v a.pool.own r.pool at same (length_put q i n v.me.pool.own))
     (own_stored k p.pool p.pages vs id q i n v r.own r.pool at may)
     (rows_same k vs id v a r.rows at refl refl refl refl refl)
     record {

@@ -1,5 +1,5 @@
 -- A page is taken: it was free, or retired so long ago that nobody holds it.
-use Rattle.std.proofs.Common.{◌≡◌, ◌≢◌, ℕ, zero, suc, ◌+◌, ◌-◌, ◌<◌, ◌≤◌, ◌==◌, List, set, get_or, sym, refl, ap, ◌∙◌, subst, arith, inl, eq-eqb, ne_eqb}
+use Rattle.std.proofs.Common.{◌≡◌, ◌≢◌, ℕ, zero, suc, ◌+◌, ◌-◌, ◌<◌, ◌≤◌, ◌==◌, List, set, get_or, sym, refl, ap, ◌∙◌, subst, arith, inl, eq-eqb, ne_eqb, ◌*◌}
 use mathlib.Core.Option.{some, none}
 use mathlib.Core.Logic.{dite}
 use native.Mathlib.Decide.{ℕ_discrete}
@@ -13,7 +13,7 @@ use Rattle.board_core.specs.declared.account.View.{View}
 use Rattle.board_core.specs.Each.{Each}
 use Rattle.board_core.specs.Words.{Parts, PoolWords, parts_of, states_at, stored}
 use Rattle.board_core.specs.Histories.{history_of}
-use Rattle.board_core.specs.Accounts.{with_me, EachAccount, seat_of}
+use Rattle.board_core.specs.Accounts.{with_me, EachAccount, seat_of, is_loader}
 use Rattle.board_core.specs.Held.{held_in}
 use Rattle.board_core.specs.Sheets.{Sheet, sheet_of, stamp_of, where_page, owns, parts, stamps}
 use Rattle.board_core.specs.SeatRule.{SeatRule, WhoFits}
@@ -28,7 +28,7 @@ use Rattle.board_core.specs.After.{after_page, after_lost}
 use Rattle.board_core.specs.Steps.{Mine, MayTakePage, TakesPage}
 use Rattle.board_core.proofs.Everyone.{mine, at_most, moved, total_same, total_changed}
 use Rattle.board_core.proofs.PageSums.{where_same, where_other, no_stamps}
-use Rattle.board_core.proofs.PoolFrame.{Keeps, KeepsHeld, each_both, each_gives, pool_claimed, scans_here}
+use Rattle.board_core.proofs.PoolFrame.{Keeps, KeepsHeld, each_both, each_gives, pool_claimed, scans_here, counts_here}
 use Rattle.board_core.proofs.Stepped.{still, words_moved}
 use Rattle.board_core.proofs.Stored.{stored_here, stored_else}
 use Rattle.board_core.proofs.OwnFrame.{own_taken}
@@ -39,6 +39,7 @@ use Rattle.board_core.specs.OldRows.{IsOldRow}
 use Rattle.board_core.specs.TreeRule.{TreeRule}
 use Rattle.board_core.specs.Sheets.{IsLinked}
 use Rattle.board_core.proofs.OldMoved.{pin_here}
+use Rattle.board_core.proofs.CountFrame.{stored_busier}
 
 -- ---- pages of which no number changed
 
@@ -120,6 +121,8 @@ take_pool k w vs id loader p v seats r at may =
     (λ n. page_kept s t w.epoch x.pool.announced q (stored_else w.states p 1 q n) (owned_same q n) (stamped_same q) (f.0 i q h)))
     (each_both _ _ vs r.held (not_held k w vs id loader p v seats r at may)))
     (states_kept w.states p 1 vs id v b (omega arith) r.states at refl)
+    (let fits = counts_here k w vs id v r at in let few = may.few in let one : is_loader v.me.who ≡ 1 = ap is_loader may.who in record { linked = fits.linked; own = omega arith })
+    (let more = stored_busier w.states p 1 k.pages in omega arith)
 
 -- pages of the tree stay in it
 take_linked : (k : Shape) (w : PoolWords) (vs : List View) (id loader q : ℕ) (v : View) → get_elem? vs id ≡ some v → MayTakePage k v.me loader q (w.states q)

@@ -24,7 +24,7 @@ account who seen = record {
   room = record { used = []; sealed = []; published = [] };
   pool = record { announced = 0; risen = 0; first = 0; low = 0; passed = 0; own = []; parted = [] };
   tree = record { front = 0; reached = []; begun = []; placed = [] };
-  counts = record { inserted = 0; fresh = 0; linked = 0 };
+  counts = record { linked = 0 };
   loads = no_loads;
   entries = [];
 }
@@ -87,6 +87,14 @@ is_opener (Loader n) = 0
 is_opener (Searcher n) = 0
 is_opener Note = 0
 is_opener Gone = 0
+
+-- 1 where the account is a loader's
+abbrev pub is_loader : Who → ℕ
+is_loader (Opener n) = 0
+is_loader (Loader n) = 1
+is_loader (Searcher n) = 0
+is_loader Note = 0
+is_loader Gone = 0
 
 -- 1 where the account is that caller's
 abbrev pub is_seat : Shape → ℕ → Who → ℕ

@@ -15,6 +15,7 @@ use Rattle.board_core.specs.declared.pool.Own.{Own}
 use Rattle.board_core.specs.Rows.{entry_word}
 use Rattle.board_core.specs.declared.tree.Link.TheVariants.{Unread, Absent, To}
 use Rattle.board_core.specs.declared.tree.Reached.{Reached}
+use Rattle.board_core.specs.declared.tree.Counts.{Counts}
 use Rattle.board_core.specs.declared.loads.Loads.{Loads}
 use Rattle.board_core.specs.declared.loads.Lengths.{Lengths}
 use Rattle.board_core.specs.declared.entry.Entry.{Entry}
@@ -239,11 +240,18 @@ after_more a j (suc n) = with_reached a (set a.tree.reached j (with_more (To (su
 abbrev pub let_go : ℕ → List Own → List Own
 let_go n os = without (λ o. o.page) n os
 
+abbrev pub more_linked : ℕ → Counts → Counts
+more_linked n c = record { linked = c.linked + n }
+
 abbrev pub after_linked : Account → ℕ → List Row → Account
-after_linked a n rows = record a { pool = record a.pool { own = let_go n a.pool.own }; tree = record a.tree { placed = a.tree.placed ++ rows } }
+after_linked a n rows = record a { pool = record a.pool { own = let_go n a.pool.own }; counts = more_linked 1 a.counts; tree = record a.tree { placed = a.tree.placed ++ rows } }
 
 abbrev pub after_inner : Account → ℕ → Account
-after_inner a n = record a { pool = record a.pool { own = let_go n a.pool.own } }
+after_inner a n = record a { pool = record a.pool { own = let_go n a.pool.own }; counts = more_linked 1 a.counts }
+
+-- one is the next page of a chain of inner pages: it and its code are known as if they had been loaded
+abbrev pub after_next : Account → ℕ → ℕ → ℕ → Account
+after_next a j n c = after_slot (after_more (after_inner a n) j n) (length a.tree.reached) c
 
 -- own pages are in the tree in place of a leaf, which is unlinked and has no stamp yet
 abbrev pub let_go_all : List ℕ → List Own → List Own
@@ -251,7 +259,10 @@ let_go_all [] os = os
 let_go_all (n ∷ ns) os = let_go n (let_go_all ns os)
 
 abbrev pub after_split : Account → List ℕ → ℕ → Account
-after_split a numbers leaf = record a { pool = record a.pool { own = let_go_all numbers a.pool.own; parted = record { page = leaf; stamp = 0 } ∷ a.pool.parted } }
+after_split a numbers leaf = record a {
+  pool = record a.pool { own = let_go_all numbers a.pool.own; parted = record { page = leaf; stamp = 0 } ∷ a.pool.parted };
+  counts = more_linked (length numbers) a.counts;
+}
 
 -- an entry is the caller's row
 abbrev pub after_entry : Account → ℕ → Row → Account

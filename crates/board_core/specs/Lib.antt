@@ -22,6 +22,7 @@ pub mod PageRule
 pub mod HeldRule
 pub mod ScanRule
 pub mod StateRule
+pub mod CountRule
 pub mod PoolRule
 pub mod OwnRule
 pub mod EmptyRule

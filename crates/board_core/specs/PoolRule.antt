@@ -1,4 +1,4 @@
--- The pool (this project's own): epochs, page status, held leaves, scans, and that no page is free again.
+-- The pool (this project's own): epochs, page status, held leaves, scans, counts, and that no page is free again.
 use Rattle.std.specs.Prelude.{List}
 use Rattle.htss_defs.specs.declared.shape.Shape.{Shape}
 use Rattle.board_core.specs.declared.account.View.{View}
@@ -9,6 +9,7 @@ use Rattle.board_core.specs.PageRule.{PageRule}
 use Rattle.board_core.specs.HeldRule.{HeldRule}
 use Rattle.board_core.specs.ScanRule.{ScanRule}
 use Rattle.board_core.specs.StateRule.{StateRule}
+use Rattle.board_core.specs.CountRule.{CountRule}
 
 pub record PoolRule (k : Shape) (w : PoolWords) (vs : List View) : Type 0 where
   pub epochs : EpochRule k w.epoch w.announced vs
@@ -16,3 +17,4 @@ pub record PoolRule (k : Shape) (w : PoolWords) (vs : List View) : Type 0 where
   pub held : HeldRule (sheet_of w.states vs) vs
   pub scans : ScanRule k (sheet_of w.states vs) vs
   pub states : StateRule w.states vs
+  pub counts : CountRule k w.states vs

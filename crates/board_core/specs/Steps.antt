@@ -36,8 +36,9 @@ use Rattle.board_core.specs.StateRule.{StatesStand}
 use Rattle.board_core.specs.ChainRule.{IsToldChain}
 use Rattle.board_core.specs.EpochRule.{IsPast, last_epoch}
 use Rattle.board_core.specs.LogWord.{kind_in, publication_word, target_in, withdrawal_word}
-use Rattle.board_core.specs.After.{visited, after_begun, after_linked, after_inner, after_split, after_entry, after_own, after_slot, after_link, after_more, after_epoch, after_advance, after_pin, after_unpin, after_pass, after_state, after_lost, after_page, after_retire, after_code, after_fact, after_head, after_mark, after_word, noted, after_take, after_free, after_answer, after_front, after_shows, after_ends, after_logged, after_event, after_shown}
+use Rattle.board_core.specs.After.{visited, after_begun, after_linked, after_inner, after_split, after_entry, after_own, after_slot, after_link, after_more, after_epoch, after_advance, after_pin, after_unpin, after_pass, after_state, after_lost, after_page, after_retire, after_code, after_fact, after_head, after_mark, after_word, noted, after_take, after_free, after_answer, after_front, after_shows, after_ends, after_logged, after_event, after_shown, after_next}
 use Rattle.board_core.specs.PublishedRule.{AllPlaced}
+use Rattle.board_core.specs.CountRule.{most_linked, most_own, insertions_of}
 use Rattle.board_core.specs.Swept.{IsTrueSwept}
 
 abbrev pub Mine : Type 0
@@ -141,6 +142,7 @@ pub record MayTakePage (k : Shape) (a : Account) (loader p x : ℕ) : Type 0 whe
   pub seen : HasState a p x
   pub below : x ≢ 0 → x ≤ a.pool.low
   pub scanned : x ≢ 0 → k.loaders + k.searchers ≤ a.pool.passed
+  pub few : length a.pool.own < most_own
 
 -- a page may be retired with this stamp: it is unlinked and has it
 pub record MayRetire (k : Shape) (a : Account) (p n : ℕ) : Type 0 where
@@ -182,11 +184,16 @@ pub record MayLoadMore (k : Shape) (a : Account) (j : ℕ) : Type 0 where
   pub full : length (visited a.tree.reached j).slots ≡ page_room (visited a.tree.reached j).leaf
   pub not_zero : (visited a.tree.reached j).zero ≡ false
 
+-- so many own pages may go into the tree, for the insertions that were begun
+abbrev pub MayLink : Account → ℕ → Type 0
+MayLink a n = a.counts.linked + n ≤ most_linked * insertions_of a
+
 -- a link that is 0 may be exchanged for a leaf that has a row
 pub record MayLinkLeaf (k : Shape) (a : Account) (j i c n : ℕ) (r : Row) : Type 0 where
   pub load : MayLoadLink k a j i c
   pub new : HasStored a n (one_word (header_of (leaf_place (visited a.tree.reached j) i c)) (entry_word r))
   pub row : IsToPlace k a ((visited a.tree.reached j).path ++ c ∷ []) r
+  pub few : MayLink a 1
 
 -- the next code word of a page, of which all codes before it were loaded, may be exchanged for a code
 pub record MayClaimCode (k : Shape) (a : Account) (j c : ℕ) : Type 0 where
@@ -209,6 +216,7 @@ pub record MayLinkNext (k : Shape) (a : Account) (j n word : ℕ) : Type 0 where
   pub load : MayLoadMore k a j
   pub rank : (visited a.tree.reached j).rank + 1 < k.chain
   pub new : HasStored a n (one_word (header_of (next_place (visited a.tree.reached j))) word)
+  pub few : MayLink a 1
 
 -- a leaf that has a row, and an inner page that has a code
 pub record MayLinkMoreLeaf (k : Shape) (a : Account) (j n : ℕ) (r : Row) : Type 0 where
@@ -232,6 +240,7 @@ pub record MayExchangeLeaf (k : Shape) (a : Account) (j i c l : ℕ) (numbers : 
   pub rank : (visited a.tree.reached l).rank ≡ 0
   pub low : length (visited a.tree.reached l).path < 5
   pub whole : Each (IsWhole a) numbers
+  pub few : MayLink a (length numbers)
   pub places : ℕ → Place
   pub plan : (codes : ℕ → List ℕ) → MayHaveCodes a (visited a.tree.reached l) codes
       → Plan (own_word a.pool.own) places codes (IsAmong numbers) a.tree.reached (visited a.tree.reached j) (visited a.tree.reached l) i first
@@ -278,7 +287,7 @@ after_claim a (LeafBelow j i c n row) = after_linked a n (row ∷ [])
 after_claim a (EntryOf j row) = after_entry a j row
 after_claim a (CodeOf j c) = after_slot a j c
 after_claim a (LeafBehind j n row) = after_linked a n (row ∷ [])
-after_claim a (InnerBehind j n c) = after_more (after_inner a n) j n
+after_claim a (InnerBehind j n c) = after_next a j n c
 
 -- ---- what is known of a board whatever its words are
 
@@ -485,6 +494,7 @@ pub record BeginsRow (row : Row) (code : ℕ) (s : Step (Unit {0})) (m : Mine) (
   pub stored_is : found ≡ code_of (words_of m.0.shape m.0.me.who m.0.me.room.used row.block) row.atom code
   pub some_code : found ≢ 0
   pub alone : HasRow (entry_word row) m.0.me.tree.placed → In row m.0.me.tree.placed
+  pub few : MayLink n.0.me most_linked
 
 -- the first word of an own block was loaded: it is the one that was stored, and all of the block is in the table
 pub record LoadsOwnHead (block : ℕ) (s : Step (Unit {0})) (m : Mine) (found : ℕ) (n : Mine) : Type 0 where

@@ -39,9 +39,7 @@ pub struct TreeAccount {
     pub placed: LinkedList<Row>,
 }
 
-/// The insertions begun, the pages taken while free, the pages linked.
+/// The own pages that went into the tree.
 pub struct Counts {
-    pub inserted: u64,
-    pub fresh: u64,
     pub linked: u64,
 }

@@ -86,6 +86,7 @@ pub record IsFreed (b : Place) (a x : Account) : Type 0 where
 pub stocked_after : (c d : Seated) → d.account.pool ≡ c.account.pool → d.stock ≡ c.stock → IsStocked c → IsStocked d
 stocked_after c d pool stock h = record {
   own = λ q own. subst (λ (l : List ℕ). IsAmong l q) (sym stock) (h.own q (subst (λ (p : PoolAccount). 0 < owns q p.own) pool own));
+  few = let own : length d.account.pool.own ≡ length c.account.pool.own = ap (λ (p : PoolAccount). length p.own) pool in let same = ap length stock in let few = h.few in omega arith;
   size = subst (λ (l : List ℕ). length l ≤ 32) (sym stock) h.size;
   clean = ap (λ (p : PoolAccount). p.parted) pool ∙ h.clean;
 }
@@ -97,6 +98,7 @@ new_ready b made c new = record {
   unpinned = ap (λ (a : Account). a.pool.announced) new.account;
   stocked = record {
     own = λ q own. let none : 0 < 0 = subst (λ (a : Account). 0 < owns q a.pool.own) new.account own in absurd (omega arith);
+    few = let own : length c.account.pool.own ≡ 0 = ap (λ (a : Account). length a.pool.own) new.account in omega arith;
     size = subst (λ (l : List ℕ). length l ≤ 32) (sym new.stock) (omega arith);
     clean = ap (λ (a : Account). a.pool.parted) new.account;
   };

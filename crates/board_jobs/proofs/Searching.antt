@@ -108,6 +108,7 @@ ready_searched c d front es ready stock s = record {
   unpinned = s.unpinned;
   stocked = record {
     own = λ q own. subst (λ (l : List ℕ). IsAmong l q) (sym stock) (ready.stocked.own q (subst (λ (l : List Own). 0 < owns q l) s.own own));
+    few = let own : length d.account.pool.own ≡ length c.account.pool.own = ap length s.own in let same : length d.stock ≡ length c.stock = ap length stock in let few = ready.stocked.few in omega arith;
     size = subst (λ (l : List ℕ). length l ≤ 32) (sym stock) ready.stocked.size;
     clean = s.parted.1 ∙ ap (stamp_all s.parted.0) ready.stocked.clean;
   };

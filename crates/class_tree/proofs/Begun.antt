@@ -1,5 +1,5 @@
 -- A row is begun, and the walk goes down depth by depth.
-use Rattle.std.proofs.Common.{◌≡◌, ◌≢◌, ℕ, zero, suc, ◌+◌, ◌*◌, ◌<◌, ◌≤◌, ◌^◌, List, [], ◌∷◌, ◌++◌, length, get_or, refl, sym, ap, ◌∙◌, subst, arith}
+use Rattle.std.proofs.Common.{◌≡◌, ◌≢◌, ℕ, zero, suc, ◌+◌, ◌*◌, ◌<◌, ◌≤◌, ◌^◌, List, [], ◌∷◌, ◌++◌, length, get_or, refl, sym, ap, ◌∙◌, subst, arith, ◌-◌}
 use mathlib.Core.Option.{some-ne-none}
 use lib.ListN.{get_elem?}
 use Rattle.htss_defs.specs.declared.shape.Shape.{Shape}
@@ -34,9 +34,12 @@ use Rattle.class_tree.specs.Loading.{LoadsOn, code_loads}
 use Rattle.class_tree.specs.declared.link.Step.{Step}
 use Rattle.class_tree.specs.declared.link.Step.TheVariants.{Down}
 use Rattle.class_tree.specs.Linking.{ComesDown, FollowsTo}
-use Rattle.class_tree.specs.Walking.{Rest, rest_of, IsTarget, IsDown, Goes, IsFound, Places, Begins}
+use Rattle.class_tree.specs.Walking.{Rest, rest_of, IsTarget, IsDown, Goes, IsFound, Places, Begins, left_at}
 use Rattle.class_tree.proofs.Grown.{goes_same, goes_on}
 use Rattle.class_tree.proofs.Loadings.{lists_of, grows_on, grows_equal, pinned_grows}
+use Rattle.board_core.specs.Steps.{MayLink}
+use Rattle.board_core.specs.CountRule.{most_linked, insertions_of}
+use Rattle.class_tree.proofs.Counting.{may_less}
 
 -- a board has fewer words than that
 pub block_fits : (k : Shape) (block : ℕ) → IsShape k → block < total_of k → block < 2 ^ 40
@@ -85,6 +88,31 @@ source_of c = (c.shape, c.account.who, c.account.room.used)
 
 abbrev code_in : Source → Row → ℕ → ℕ
 code_in s row i = code_of (words_of s.0 s.1 s.2 row.block) row.atom i
+
+-- the codes that are loaded then link nothing
+pub begun_few : (n : ℕ) (d e f g l : Seated) (row : Row) (w x y z : ℕ) → l ≡ with_account g (after_code g.account row 4 z) → g ≡ with_account f (after_code f.account row 3 y) → f ≡ with_account e (after_code e.account row 2 x) → e ≡ with_account d (after_code d.account row 1 w)
+    → MayLink d.account n → MayLink l.account n
+begun_few n d e f g l row w x y z fifth fourth third second may =
+    let may_e : MayLink e.account n = subst (λ (q : Seated). MayLink q.account n) (sym second) may in
+    let may_f : MayLink f.account n = subst (λ (q : Seated). MayLink q.account n) (sym third) may_e in
+    let may_g : MayLink g.account n = subst (λ (q : Seated). MayLink q.account n) (sym fourth) may_f in
+    subst (λ (q : Seated). MayLink q.account n) (sym fifth) may_g
+
+pub pinned_few : (n : ℕ) (d e : Seated) → IsPinned d e → MayLink d.account n → MayLink e.account n
+pinned_few n d e p may = subst (λ (q : Seated). MayLink q.account n) (sym p.after) may
+
+-- ---- how many pages it may link
+
+pub found_may : (k : Shape) (d e : Seated) (x : Slot) (depth : ℕ) (t : Target) → IsFound k d e x depth t → depth < 5 → MayLink d.account (left_at depth) → MayLink e.account 1
+found_may k d e x depth t found low may = may_less 1 1 d.account e.account found.goes.rest found.linked (omega arith)
+
+pub found_may_split : (k : Shape) (d e : Seated) (x : Slot) (depth : ℕ) (t : Target) → IsFound k d e x depth t → MayLink d.account (left_at depth) → depth < 4 → MayLink e.account 16
+found_may_split k d e x depth t found may low = may_less 16 1 d.account e.account found.goes.rest found.linked (omega arith)
+
+pub next_may : (k : Shape) (d e f : Seated) (x : Slot) (next : Stop) (depth : ℕ) (t : Target) → IsFound k d e x depth t → ComesDown k e f x.stop next depth t → MayLink d.account (left_at depth) → MayLink f.account (left_at (depth + 1))
+next_may k d e f x next depth t found down may =
+    let low = down.low in let one = found.linked in let more = down.linked in
+    may_less (left_at (depth + 1)) 17 d.account f.account (down.goes.rest ∙ found.goes.rest) (omega arith) (omega arith)
 
 pub is_target : (b : Place) (c h d e f g l : Seated) (row : Row) (entry v w x y z : ℕ) → IsOf b c → h ≡ c → l ≡ with_account g (after_code g.account row 4 z) → g ≡ with_account f (after_code f.account row 3 y) → f ≡ with_account e (after_code e.account row 2 x) → e ≡ with_account d (after_code d.account row 1 w)
     → d ≡ with_account h (after_begun (after_code h.account row 0 v) row) → v ≡ code_in (h.shape, h.account.who, h.account.room.used) row 0 → w ≡ code_in (d.shape, d.account.who, d.account.room.used) row 1 → x ≡ code_in (e.shape, e.account.who, e.account.room.used) row 2

@@ -1,5 +1,5 @@
 -- A link is followed: to the page that hangs there, or to a new leaf with the row.
-use Rattle.std.proofs.Common.{◌≡◌, ◌≢◌, ℕ, zero, suc, ◌+◌, ◌*◌, ◌%◌, ◌<◌, Bool, true, false, List, [], ◌∷◌, ◌++◌, length, get_or, take, refl, sym, ap, ◌∙◌, subst, arith, get_or-set_same}
+use Rattle.std.proofs.Common.{◌≡◌, ◌≢◌, ℕ, zero, suc, ◌+◌, ◌*◌, ◌%◌, ◌<◌, Bool, true, false, List, [], ◌∷◌, ◌++◌, length, get_or, take, refl, sym, ap, ◌∙◌, subst, arith, get_or-set_same, ◌≤◌}
 use Rattle.std.specs.Prelude.{Option, Some, Result, Ok, Err, MatchResult}
 use mathlib.Core.Logic.{dite}
 use native.Mathlib.Decide.{ℕ_discrete}
@@ -13,7 +13,7 @@ use Rattle.board_core.specs.ClassTree.{Place as TreePlace, kind_of, header_of}
 use Rattle.board_core.specs.KnownPages.{place_of}
 use Rattle.board_core.specs.Loaded.{IsPage, IsToPlace, HasStored, one_word, leaf_place}
 use Rattle.board_core.specs.After.{root, visited, with_link, after_link, led}
-use Rattle.board_core.specs.Steps.{MayLoadLink, MayLinkLeaf}
+use Rattle.board_core.specs.Steps.{MayLoadLink, MayLinkLeaf, MayLink}
 use Rattle.board.specs.Seated.{Seated, with_account, with_stock}
 use Rattle.class_tree.specs.declared.walks.Stop.{Stop}
 use Rattle.class_tree.specs.declared.walks.Slot.{Slot}
@@ -33,6 +33,8 @@ use Rattle.class_tree.proofs.Pairs.{pair_of, pair_kept, face_of, longer_path, co
 use Rattle.class_tree.proofs.Chain.{depth_is, stored_header, but_same}
 use Rattle.class_tree.proofs.Searching.{stops_on, reads_goes, goes_less, lacks_on}
 use Rattle.class_tree.proofs.Entering.{to_place, goes_places}
+use Rattle.board_core.specs.declared.tree.Counts.{Counts}
+use Rattle.class_tree.proofs.Counting.{counts_link, reads_counts, may_on}
 
 -- ---- at a link
 
@@ -129,12 +131,14 @@ led_read k c d x next depth n t h (leaf, e) some_n inside is =
       goes = grown_goes 0 c d (after_link a x.stop.number x.index code n leaf) (led (here a x.stop) x.index code n leaf) (omega arith) e (rest_link a x.stop.number x.index code n leaf) (lists_link a x.stop.number x.index code n leaf) (grown_link a x.stop x.index code n leaf less some_n);
       number = ap (λ (x : Stop). x.number) is;
       behind = is_behind k a d.account x next depth n leaf t h (ap (λ (y : Seated). y.account) e) some_n inside is;
+      linked = ap (λ (y : Seated). y.account.counts) e ∙ counts_link a x.stop.number x.index code n leaf;
     }
 
 -- nothing hung there, and a new leaf is ready
 pub record IsAtLink (k : Shape) (c e : Seated) (x : Slot) (depth : ℕ) (t : Target) : Type 0 where
   pub goes : Goes 0 c e
   pub code : HasCode k e.account x depth t
+  pub linked : e.account.counts ≡ c.account.counts
 
 pub at_link : (k : Shape) (c d e : Seated) (x : Slot) (depth word page header first : ℕ) (t : Target) → HasCode k c.account x depth t → (leaf : Bool) × (d ≡ with_account c (after_link c.account x.stop.number x.index (get_or t.codes depth 0) word leaf)) → word ≡ 0 → IsReady k d e page header first → IsAtLink k c e x depth t
 at_link k c d e x depth word page header first t h (leaf, load) none ready =
@@ -144,11 +148,12 @@ at_link k c d e x depth word page header first t h (leaf, load) none ready =
     let zero_load : d ≡ with_account c (after_link a x.stop.number x.index code 0 leaf) = load ∙ ap (λ (n : ℕ). with_account c (after_link a x.stop.number x.index code n leaf)) none in record {
       goes = goes_on 0 (length d.account.tree.reached) c d e (omega arith) (shown_goes 0 c d (after_link a x.stop.number x.index code 0 leaf) zero_load refl refl (none_link a x.stop x.index code leaf less)) ready.goes;
       code = code_same k d.account e.account x depth t ready.goes.rest ready.reached (subst (λ (y : Seated). HasCode k y.account x depth t) (sym zero_load) (code_zero k a x depth x.index code leaf t h));
+      linked = ready.linked ∙ ap (λ (y : Seated). y.account.counts) zero_load;
     }
 
 pub may_link : (k : Shape) (c d e : Seated) (x : Slot) (depth word page header : ℕ) (t : Target) → HasCode k c.account x depth t → (leaf : Bool) × (d ≡ with_account c (after_link c.account x.stop.number x.index (get_or t.codes depth 0) word leaf)) → word ≡ 0
-    → header ≡ kind_of true + 4 * (depth + 1) + 32 * 0 → IsReady k d e page header t.entry → MayLinkLeaf k e.account x.stop.number x.index (get_or t.codes depth 0) page t.row
-may_link k c d e x depth word page header t h load none is ready =
+    → header ≡ kind_of true + 4 * (depth + 1) + 32 * 0 → IsReady k d e page header t.entry → MayLink c.account 1 → MayLinkLeaf k e.account x.stop.number x.index (get_or t.codes depth 0) page t.row
+may_link k c d e x depth word page header t h load none is ready may =
     let end = at_link k c d e x depth word page header t.entry t h load none ready in
     let w = end.code in
     let code : ℕ = get_or t.codes depth 0 in
@@ -159,6 +164,7 @@ may_link k c d e x depth word page header t h load none is ready =
       load = may_load_link k e.account x depth t w;
       new = subst (λ (n : ℕ). HasStored e.account page (one_word (header_of (leaf_place (here e.account x.stop) x.index code)) n)) (sym w.target.entry) (stored_header e.account page header (header_of (leaf_place (here e.account x.stop) x.index code)) t.entry header_is ready.stored);
       row = subst (λ (p : List ℕ). IsToPlace k e.account p t.row) (sym path) (to_place k e.account t (depth + 1) w.target);
+      few = may_on 1 c.account e.account end.goes.rest end.linked may;
     }
 
 pub link_pool : (a : Account) (j i c n : ℕ) (leaf : Bool) → (after_link a j i c n leaf).pool ≡ a.pool
@@ -166,7 +172,7 @@ link_pool a j i c zero leaf = refl
 link_pool a j i c (suc n) leaf = refl
 
 pub link_stocked : (c d : Seated) (j i code found : ℕ) → IsStocked c → (leaf : Bool) × (d ≡ with_account c (after_link c.account j i code found leaf)) → IsStocked d
-link_stocked c d j i code found s (leaf, link) = subst IsStocked (sym link) (subst (λ (p : PoolAccount). IsStocked (with_account c (record (after_link c.account j i code found leaf) { pool = p }))) (sym (link_pool c.account j i code found leaf)) record { own = s.own; size = s.size; clean = s.clean })
+link_stocked c d j i code found s (leaf, link) = subst IsStocked (sym link) (subst (λ (p : PoolAccount). IsStocked (with_account c (record (after_link c.account j i code found leaf) { pool = p }))) (sym (link_pool c.account j i code found leaf)) record { own = s.own; few = s.few; size = s.size; clean = s.clean })
 
 pub link_but : (k : Shape) (d e f : Seated) (j i c page header first found : ℕ) → IsReady k d e page header first → (leaf : Bool) × (f ≡ with_account e (after_link e.account j i c found leaf)) → IsStockedBut f page
 link_but k d e f j i c page header first found ready (leaf, link) = but_same e f page ready.but (ap (λ (x : Seated). x.stock) link) (ap (λ (x : Seated). x.account.pool) link ∙ link_pool e.account j i c found leaf)
@@ -181,6 +187,7 @@ link_lost k c d e f g x next depth word found page header t h load none ready li
       goes = record { table = goes_f.table; shape = goes_f.shape; rest = goes_f.rest; grows = goes_f.grows; longer = goes_f.longer; stays = goes_f.stays };
       number = now.number;
       behind = now.behind;
+      linked = now.linked ∙ end.linked;
     }
 
 -- ---- the kind of the page behind a link
@@ -202,6 +209,7 @@ comes_higher k c d x s depth header t h same is shallow other =
     let path : length (here c.account s).path ≡ length (take (depth + 1) t.codes) = ap length h.at.on in
     let low = shallow inner in record {
       goes = subst (Goes 0 c) (sym same) (goes_same 0 c);
+      linked = (let e = ap (λ (y : Seated). y.account.counts.linked) same in omega arith);
       number = omega arith;
       low = omega arith;
       down = subst (λ (y : Seated). IsDown k y.account s (depth + 1) t) (sym same) record {
@@ -253,7 +261,7 @@ goes_read : (c d e : Seated) (n : ℕ) → d ≡ c → Reads d e n → Goes 0 c 
 goes_read c d e n same reads = goes_less 0 n c e (omega arith) (reads_goes n c e (subst (λ (y : Seated). Reads y e n) same reads))
 
 pub comes_after : (k : Shape) (c d e f : Seated) (s next : Stop) (depth : ℕ) (t : Target) → d ≡ c → Reads d e s.number → ComesIn k e f s next depth t → ComesIn k c f s next depth t
-comes_after k c d e f s next depth t same reads h = record { goes = goes_on 0 0 c e f (omega arith) (goes_read c d e s.number same reads) h.goes; number = h.number; low = h.low; down = h.down }
+comes_after k c d e f s next depth t same reads h = record { goes = goes_on 0 0 c e f (omega arith) (goes_read c d e s.number same reads) h.goes; linked = (let a = ap (λ (y : Seated). y.account.counts.linked) same in let b = ap (λ (y : Counts). y.linked) (reads_counts s.number d e reads) in let more = h.linked in omega arith); number = h.number; low = h.low; down = h.down }
 
 pub lacks_after : (k : Shape) (c d e f : Seated) (n : ℕ) (row : Row) → d ≡ c → Reads d e n → LacksPages k e f row → LacksPages k c f row
 lacks_after k c d e f n row same reads l = lacks_on k 0 c e f row (goes_read c d e n same reads) l
@@ -264,6 +272,7 @@ pub follows : (k : Shape) (c d e : Seated) (x : Slot) (next : Stop) (depth : ℕ
 follows k c d e x next depth t Placed l g = goes_places 0 c d e t.row l.goes g
 follows k c d e x next depth t (Down to) l g = record {
   goes = goes_on 0 0 c d e (omega arith) l.goes g.goes;
+  linked = (let same = ap (λ (y : Counts). y.linked) l.linked in let more = g.linked in omega arith);
   number = (let now = g.number in let before = l.number in omega arith);
   low = g.low;
   down = g.down;

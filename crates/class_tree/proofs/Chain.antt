@@ -15,8 +15,8 @@ use Rattle.board_core.specs.Sheets.{owns}
 use Rattle.board_core.specs.MarkRule.{IsAmong}
 use Rattle.board_core.specs.ClassTree.{page_room, kind_of, header_of}
 use Rattle.board_core.specs.Loaded.{IsPage, HasStored, IsToClaim, one_word, next_place}
-use Rattle.board_core.specs.After.{root, visited, with_more, after_more, after_inner, let_go, next_of}
-use Rattle.board_core.specs.Steps.{MayLoadMore, MayLinkInner}
+use Rattle.board_core.specs.After.{root, visited, with_more, after_more, after_inner, let_go, next_of, after_next, after_slot, more_linked}
+use Rattle.board_core.specs.Steps.{MayLoadMore, MayLinkInner, MayLink}
 use Rattle.board_core.proofs.Lists.{at_longer, at_last}
 use Rattle.board_core.proofs.PageSums.{without_here, without_else}
 use Rattle.board.specs.Seated.{Seated, IsLoader, number_in, with_account, with_stock}
@@ -24,10 +24,13 @@ use Rattle.class_tree.specs.declared.walks.Stop.{Stop}
 use Rattle.class_tree.specs.declared.walks.Target.{Target}
 use Rattle.class_tree.specs.Inserting.{IsStocked}
 use Rattle.class_tree.specs.Stocked.{IsStockedBut, IsReady}
-use Rattle.class_tree.specs.Walking.{here, Rest, rest_of, AreHigh, IsFresh, IsAt, IsTarget, IsSeeking, Goes, IsNext}
-use Rattle.class_tree.proofs.Pages.{within, target_kept}
-use Rattle.class_tree.proofs.Finding.{to_claim}
+use Rattle.class_tree.specs.Walking.{here, Rest, rest_of, AreHigh, IsFresh, IsAt, IsTarget, IsSeeking, Goes, IsNext, IsMadeBehind}
+use Rattle.class_tree.proofs.Pages.{within, target_kept, reads_slot}
+use Rattle.class_tree.proofs.Finding.{to_claim, stands_within, code_stands}
 use Rattle.class_tree.proofs.Grown.{equal_shown, same_fresh, same_high, Grown, grown_more, none_more, grown_fresh, grown_high, grown_at, rest_more, lists_more, goes_on, shown_goes, grown_goes}
+use Rattle.board_core.specs.declared.tree.Counts.{Counts}
+use Rattle.board_core.proofs.CountFrame.{as_many}
+use Rattle.class_tree.proofs.Counting.{counts_more, may_on}
 
 -- ---- whose the caller is
 
@@ -42,6 +45,7 @@ stocked_without c d page but stock own parted = record {
   own = λ q mine. subst (λ (l : List ℕ). IsAmong l q) (sym stock) (dite (ℕ_discrete q page)
       (λ is. let none : owns q d.account.pool.own ≡ 0 = ap (λ (z : ℕ). owns z d.account.pool.own) is ∙ (ap (owns page) own ∙ without_here (λ (o : Own). o.page) page c.account.pool.own) in absurd (omega arith))
       (λ other. but.own q other (let same : owns q d.account.pool.own ≡ owns q c.account.pool.own = ap (owns q) own ∙ without_else (λ (o : Own). o.page) (λ _. 1) page q (λ e. other (sym e)) c.account.pool.own in omega arith)));
+  few = (let left : length d.account.pool.own ≡ length (let_go page c.account.pool.own) = ap length own in let many = as_many page c.account.pool.own in let mine = but.mine in let few = but.few in let same = ap length stock in omega arith);
   size = (let same = ap length stock in let room = but.room in omega arith);
   clean = parted ∙ but.clean;
 }
@@ -49,6 +53,7 @@ stocked_without c d page but stock own parted = record {
 pub but_same : (c d : Seated) (page : ℕ) → IsStockedBut c page → d.stock ≡ c.stock → d.account.pool ≡ c.account.pool → IsStockedBut d page
 but_same c d page but stock pool = record {
   own = λ q other mine. subst (λ (l : List ℕ). IsAmong l q) (sym stock) (but.own q other (subst (λ (p : PoolAccount). 0 < owns q p.own) pool mine));
+  few = (let own : length d.account.pool.own ≡ length c.account.pool.own = ap (λ (p : PoolAccount). length p.own) pool in let same = ap length stock in let few = but.few in omega arith);
   mine = subst (λ (p : PoolAccount). 0 < owns page p.own) (sym pool) but.mine;
   apart = λ among. but.apart (subst (λ (l : List ℕ). IsAmong l page) stock among);
   room = (let same = ap length stock in let room = but.room in omega arith);
@@ -61,6 +66,7 @@ stocked_again c d page but e = subst IsStocked (sym e) record {
   own = λ q mine. dite (ℕ_discrete q page)
       (λ is. (length c.stock, at_last c.stock page (length c.stock) refl ∙ ap some (sym is)))
       (λ other. let (i, there) = but.own q other mine in (i, at_longer c.stock (page ∷ []) i q there));
+  few = (let longer = length-append c.stock (page ∷ []) in let few = but.few in omega arith);
   size = (let longer = length-append c.stock (page ∷ []) in let room = but.room in omega arith);
   clean = but.clean;
 }
@@ -175,19 +181,23 @@ seeks_next k a b s next depth rank n t w h e some_n inside is =
     }
 
 -- the page was there
-pub next_read : (k : Shape) (c d : Seated) (s next : Stop) (depth rank n : ℕ) (t : Target) → IsSeeking k c.account s depth rank 7 t → d ≡ with_account c (after_more c.account s.number n) → n ≢ 0 → IsPage k n → next ≡ record { page = n; number = s.number + 1 } → IsNext k c d s next depth rank t
+pub next_read : (k : Shape) (c d : Seated) (s next : Stop) (depth rank n : ℕ) (t : Target) → IsSeeking k c.account s depth rank 7 t → d ≡ with_account c (after_more c.account s.number n) → n ≢ 0 → IsPage k n → next ≡ record { page = n; number = s.number + 1 } → IsNext k c d s next depth rank t × (d.account.counts ≡ c.account.counts)
 next_read k c d s next depth rank n t h e some_n inside is =
     let w = whole k c.account s (take depth t.codes) rank false h.at in
-    let less = whole_less k c.account s (take depth t.codes) rank false w in record {
-      goes = grown_goes (s.number + 1) c d (after_more c.account s.number n) (next_of (here c.account s) n) (omega arith) e (rest_more c.account s.number n) (lists_more c.account s.number n) (grown_more c.account s n less some_n);
-      number = ap (λ (x : Stop). x.number) is;
-      seeking = seeks_next k c.account d.account s next depth rank n t w (seeks k c.account s depth rank 7 t h) (ap (λ (x : Seated). x.account) e) some_n inside is;
-    }
+    let less = whole_less k c.account s (take depth t.codes) rank false w in (
+      record {
+        goes = grown_goes (s.number + 1) c d (after_more c.account s.number n) (next_of (here c.account s) n) (omega arith) e (rest_more c.account s.number n) (lists_more c.account s.number n) (grown_more c.account s n less some_n);
+        number = ap (λ (x : Stop). x.number) is;
+        seeking = seeks_next k c.account d.account s next depth rank n t w (seeks k c.account s depth rank 7 t h) (ap (λ (x : Seated). x.account) e) some_n inside is;
+      },
+      ap (λ (x : Seated). x.account.counts) e ∙ counts_more c.account s.number n,
+    )
 
 -- no page was there, and a new one is ready
 pub record IsAtEnd (k : Shape) (c e : Seated) (s : Stop) (path : List ℕ) (rank : ℕ) (leaf : Bool) : Type 0 where
   pub goes : Goes (s.number + 1) c e
   pub whole_page : IsWhole k e.account s path rank leaf
+  pub linked : e.account.counts ≡ c.account.counts
 
 pub at_end_of : (k : Shape) (c d e : Seated) (s : Stop) (path : List ℕ) (rank word page header first : ℕ) (leaf : Bool) → IsWhole k c.account s path rank leaf → d ≡ with_account c (after_more c.account s.number word) → word ≡ 0 → IsReady k d e page header first → IsAtEnd k c e s path rank leaf
 at_end_of k c d e s path rank word page header first leaf w load none ready =
@@ -196,6 +206,7 @@ at_end_of k c d e s path rank word page header first leaf w load none ready =
     let zero_whole : IsWhole k d.account s path rank leaf = subst (λ (x : Seated). IsWhole k x.account s path rank leaf) (sym zero_load) (whole_zero k c.account s path rank leaf w) in record {
       goes = goes_on (s.number + 1) (length d.account.tree.reached) c d e (let last = zero_whole.last in omega arith) (shown_goes (s.number + 1) c d (after_more c.account s.number 0) zero_load refl refl (none_more c.account s less)) ready.goes;
       whole_page = whole_same k d.account e.account s path rank leaf ready.reached (ap (λ (x : Rest). x.announced) ready.goes.rest) zero_whole;
+      linked = ready.linked ∙ ap (λ (x : Seated). x.account.counts) zero_load;
     }
 
 pub end_seeks : (k : Shape) (c d e : Seated) (s : Stop) (depth rank word page header first : ℕ) (t : Target) → IsSeeking k c.account s depth rank 7 t → d ≡ with_account c (after_more c.account s.number word) → word ≡ 0 → IsReady k d e page header first → Seeks k e.account depth t
@@ -215,8 +226,8 @@ next_header x path depth rank header leaf on long at kind is =
     is ∙ (λ i. kind_of (sym kind i) + 4 * sym a i + 32 * (sym at i + 1))
 
 pub may_link_inner : (k : Shape) (c d e : Seated) (s : Stop) (depth rank word page header : ℕ) (t : Target) → IsSeeking k c.account s depth rank 7 t → rank + 1 < k.chain → d ≡ with_account c (after_more c.account s.number word) → word ≡ 0
-    → header ≡ kind_of false + 4 * depth + 32 * (rank + 1) → IsReady k d e page header (get_or t.codes depth 0) → MayLinkInner k e.account s.number page (get_or t.codes depth 0)
-may_link_inner k c d e s depth rank word page header t h room load none is ready =
+    → header ≡ kind_of false + 4 * depth + 32 * (rank + 1) → IsReady k d e page header (get_or t.codes depth 0) → MayLink c.account 1 → MayLinkInner k e.account s.number page (get_or t.codes depth 0)
+may_link_inner k c d e s depth rank word page header t h room load none is ready may =
     let code : ℕ = get_or t.codes depth 0 in
     let path : List ℕ = take depth t.codes in
     let end = at_end_of k c d e s path rank word page header code false (whole k c.account s path rank false h.at) load none ready in
@@ -227,6 +238,7 @@ may_link_inner k c d e s depth rank word page header t h room load none is ready
         load = may_load_more k e.account s path rank false w;
         rank = (let at = w.at in omega arith);
         new = stored_header e.account page header _ code (next_header (here e.account s) path depth rank header false w.on long w.at w.kind is) ready.stored;
+        few = may_on 1 c.account e.account end.goes.rest end.linked may;
       };
       inner = w.kind;
       claim = subst (λ (p : List ℕ). IsToClaim k e.account p code) (sym w.on) (to_claim k e.account t depth f.deep f.target f.fresh);
@@ -252,9 +264,33 @@ inner_won k c d e f s next depth rank word page header t h load none ready link 
       seeking = seeks_next k b f.account s next depth rank page t w (seeks_same k e.account b depth t refl refl g) (ap (λ (x : Seated). x.account) link) some_n ready.inside is;
     }
 
+-- and the code stands in its first slot
+pub inner_made : (k : Shape) (c d e f : Seated) (s next : Stop) (depth rank word page header : ℕ) (t : Target) → IsSeeking k c.account s depth rank 7 t → d ≡ with_account c (after_more c.account s.number word) → word ≡ 0
+    → IsReady k d e page header (get_or t.codes depth 0) → f ≡ with_account e (after_next e.account s.number page (get_or t.codes depth 0)) → next ≡ record { page = page; number = s.number + 1 } → IsMadeBehind k c f s next depth rank t
+inner_made k c d e f s next depth rank word page header t h load none ready link is =
+    let code : ℕ = get_or t.codes depth 0 in
+    let m : Seated = with_account e (after_more (after_inner e.account page) s.number page) in
+    let n : IsNext k c m s next depth rank t = inner_won k c d e m s next depth rank word page header t h load none ready refl is in
+    let end = at_end_of k c d e s (take depth t.codes) rank word page header code false (whole k c.account s (take depth t.codes) rank false h.at) load none ready in
+    let last : length e.account.tree.reached ≡ next.number = end.whole_page.last ∙ sym n.number in
+    let read : f ≡ with_account m (after_slot m.account next.number code) = link ∙ ap (λ (z : ℕ). with_account m (after_slot m.account z code)) last in
+    let counts : f.account.counts ≡ more_linked 1 e.account.counts = ap (λ (x : Seated). x.account.counts) read ∙ counts_more (after_inner e.account page) s.number page in
+    let before = ap (λ (x : Counts). x.linked) end.linked in
+    let after = ap (λ (x : Counts). x.linked) counts in record {
+      middle = m;
+      on = n;
+      reads = reads_slot m f next code (stands_within k m.account next depth (rank + 1) 0 t n.seeking) read;
+      code = code_stands k m f next depth (rank + 1) 0 code t n.seeking (omega arith) read (h.target.some_code depth h.deep) refl;
+      linked = omega arith;
+    }
+
+pub made_loader : (k : Shape) (c d : Seated) (s next : Stop) (depth rank : ℕ) (t : Target) → IsMadeBehind k c d s next depth rank t → IsLoader c → IsLoader d
+made_loader k c d s next depth rank t m loader =
+    subst (λ (w : Who). w ≡ Loader (number_in w)) (sym (ap (λ (x : Seated). x.account.who) m.reads.only)) (goes_loader (s.number + 1) c m.middle m.on.goes loader)
+
 -- another was faster
 pub inner_lost : (k : Shape) (c d e f g : Seated) (s next : Stop) (depth rank word found page header : ℕ) (t : Target) → IsSeeking k c.account s depth rank 7 t → d ≡ with_account c (after_more c.account s.number word) → word ≡ 0
-    → IsReady k d e page header (get_or t.codes depth 0) → f ≡ with_account e (after_more e.account s.number found) → found ≢ 0 → IsPage k found → g ≡ with_stock f (f.stock ++ page ∷ []) → next ≡ record { page = found; number = s.number + 1 } → IsNext k c g s next depth rank t
+    → IsReady k d e page header (get_or t.codes depth 0) → f ≡ with_account e (after_more e.account s.number found) → found ≢ 0 → IsPage k found → g ≡ with_stock f (f.stock ++ page ∷ []) → next ≡ record { page = found; number = s.number + 1 } → IsNext k c g s next depth rank t × (g.account.counts ≡ c.account.counts)
 inner_lost k c d e f g s next depth rank word found page header t h load none ready link some_n inside keep is =
     let path : List ℕ = take depth t.codes in
     let end = at_end_of k c d e s path rank word page header (get_or t.codes depth 0) false (whole k c.account s path rank false h.at) load none ready in
@@ -262,11 +298,15 @@ inner_lost k c d e f g s next depth rank word found page header t h load none re
     let less = whole_less k e.account s path rank false end.whole_page in
     let goes_f = goes_on (s.number + 1) (s.number + 1) c e f (omega arith) end.goes (grown_goes (s.number + 1) e f (after_more e.account s.number found) (next_of (here e.account s) found) (omega arith) link (rest_more e.account s.number found) (lists_more e.account s.number found) (grown_more e.account s found less some_n)) in
     let seeking_f = seeks_next k e.account f.account s next depth rank found t end.whole_page x (ap (λ (x : Seated). x.account) link) some_n inside is in
-    subst (λ (y : Seated). IsNext k c y s next depth rank t) (sym keep) record {
-      goes = record { table = goes_f.table; shape = goes_f.shape; rest = goes_f.rest; grows = goes_f.grows; longer = goes_f.longer; stays = goes_f.stays };
-      number = ap (λ (x : Stop). x.number) is;
-      seeking = seeking_f;
-    }
+    let counts : f.account.counts ≡ c.account.counts = ap (λ (x : Seated). x.account.counts) link ∙ (counts_more e.account s.number found ∙ end.linked) in
+    subst (λ (y : Seated). IsNext k c y s next depth rank t × (y.account.counts ≡ c.account.counts)) (sym keep) (
+      record {
+        goes = record { table = goes_f.table; shape = goes_f.shape; rest = goes_f.rest; grows = goes_f.grows; longer = goes_f.longer; stays = goes_f.stays };
+        number = ap (λ (x : Stop). x.number) is;
+        seeking = seeking_f;
+      },
+      counts,
+    )
 
 -- ---- the stock after the link
 
@@ -275,9 +315,9 @@ more_pool a j zero = refl
 more_pool a j (suc n) = refl
 
 pub more_stocked : (c d : Seated) (j n : ℕ) → IsStocked c → d ≡ with_account c (after_more c.account j n) → IsStocked d
-more_stocked c d j n s load = subst IsStocked (sym load) (subst (λ (p : PoolAccount). IsStocked (with_account c (record (after_more c.account j n) { pool = p }))) (sym (more_pool c.account j n)) record { own = s.own; size = s.size; clean = s.clean })
+more_stocked c d j n s load = subst IsStocked (sym load) (subst (λ (p : PoolAccount). IsStocked (with_account c (record (after_more c.account j n) { pool = p }))) (sym (more_pool c.account j n)) record { own = s.own; few = s.few; size = s.size; clean = s.clean })
 
-pub won_stocked : (k : Shape) (d e f : Seated) (s : Stop) (page header first : ℕ) → IsReady k d e page header first → f ≡ with_account e (after_more (after_inner e.account page) s.number page) → IsStocked f
+pub won_stocked : (k : Shape) (d e f : Seated) (s : Stop) (page header first : ℕ) → IsReady k d e page header first → f ≡ with_account e (after_next e.account s.number page first) → IsStocked f
 won_stocked k d e f s page header first ready link = stocked_without e f page ready.but (ap (λ (x : Seated). x.stock) link)
     (ap (λ (x : Seated). x.account.pool.own) link ∙ ap (λ (p : PoolAccount). p.own) (more_pool (after_inner e.account page) s.number page))
     (ap (λ (x : Seated). x.account.pool.parted) link ∙ ap (λ (p : PoolAccount). p.parted) (more_pool (after_inner e.account page) s.number page))

@@ -1,5 +1,5 @@
 -- The link to a full leaf was exchanged, by this caller or by another.
-use Rattle.std.proofs.Common.{◌≡◌, ◌≢◌, ℕ, ◌+◌, ◌<◌, false, List, [], ◌∷◌, length, get_or, take, refl, sym, ap, ◌∙◌, subst, arith, ⊎_elim, cond, eq-eqb}
+use Rattle.std.proofs.Common.{◌≡◌, ◌≢◌, ℕ, ◌+◌, ◌<◌, false, List, [], ◌∷◌, length, get_or, take, refl, sym, ap, ◌∙◌, subst, arith, ⊎_elim, cond, eq-eqb, ◌≤◌, length-take-le}
 use mathlib.Core.Option.{some}
 use Rattle.htss_defs.specs.declared.shape.Shape.{Shape}
 use Rattle.board_core.specs.declared.account.Account.{Account}
@@ -10,8 +10,8 @@ use Rattle.board_core.specs.Each.{Each}
 use Rattle.board_core.specs.Sheets.{owns, parts, stamps}
 use Rattle.board_core.specs.MarkRule.{IsAmong}
 use Rattle.board_core.specs.Loaded.{IsPage, HasOwn}
-use Rattle.board_core.specs.After.{led, after_link, after_split, let_go_all, stamp_all, without}
-use Rattle.board_core.proofs.LetGo.{all_less, all_gone}
+use Rattle.board_core.specs.After.{led, after_link, after_split, let_go_all, stamp_all, without, more_linked}
+use Rattle.board_core.proofs.LetGo.{all_less, all_gone, all_many}
 use Rattle.board_core.proofs.PageSums.{where_same}
 use Rattle.board_core.specs.declared.account.Who.{Who}
 use Rattle.board_core.specs.declared.account.Who.TheVariants.{Loader}
@@ -31,6 +31,8 @@ use Rattle.class_tree.proofs.Searching.{goes_less}
 use Rattle.class_tree.proofs.Pairs.{IsReachedBehind, behind_link}
 use Rattle.class_tree.proofs.Behind.{same_at, link_pool}
 use Rattle.class_tree.proofs.Splitting.{full_same, taken_is, taken_there}
+use Rattle.board_core.specs.declared.tree.Counts.{Counts}
+use Rattle.class_tree.proofs.Counting.{counts_link, take_most}
 
 -- the pages that are to go are not kept
 pub none_kept : (k : Shape) (c d : Seated) (x : Slot) (s : Stop) (depth need : ℕ) (t : Target) (pages : List ℕ) → IsMade k c d x s depth t pages need → Each (λ n. ¬ (IsAmong d.stock n)) (take need pages)
@@ -78,6 +80,22 @@ won_stock k c d e f x s depth need code first leaf t pages m long won r q mine =
     let gone = all_gone (take need pages) d.account.pool.own q (h.0, taken_there pages need h.0 low (omega arith) ∙ ap some h.2) in absurd (omega arith))
     (m.takes.taken.own q (omega arith))
 
+-- as many own pages went as were taken
+won_few : (k : Shape) (c d e f : Seated) (x : Slot) (s : Stop) (depth need code first leaf : ℕ) (t : Target) (pages : List ℕ) → IsMade k c d x s depth t pages need → length pages ≡ 16
+    → e ≡ with_account d (after_link (after_split d.account (take need pages) leaf) x.stop.number x.index code first false) → IsRetired e f leaf → length f.account.pool.own ≤ length f.stock
+won_few k c d e f x s depth need code first leaf t pages m long won r =
+    let ns : List ℕ = take need pages in
+    let os : List Own = d.account.pool.own in
+    let own : f.account.pool.own ≡ let_go_all ns os = ap (λ (y : Seated). y.account.pool.own) r.after ∙ (ap (λ (y : Seated). y.account.pool.own) won ∙ ap (λ (p : PoolAccount). p.own) (link_pool (after_split d.account ns leaf) x.stop.number x.index code first false)) in
+    let stock : f.stock ≡ d.stock = ap (λ (y : Seated). y.stock) r.after ∙ ap (λ (y : Seated). y.stock) won in
+    let few : need ≤ 16 = m.few in
+    let size : length ns ≡ need = length-take-le need pages (omega arith) in
+    let many = all_many ns os
+    (λ i j n a b. let p = taken_is pages need i n a in let q = taken_is pages need j n b in m.takes.taken.apart i j p.0 q.0 (p.1 ∙ sym q.1))
+    (λ j n there. let p = taken_is pages need j n there in subst (λ (z : ℕ). 0 < owns z os) p.1 (m.takes.taken.mine j p.0).1) in
+    let left : length f.account.pool.own ≡ length (let_go_all ns os) = ap length own in
+    let same = ap length stock in let had = m.takes.taken.few in omega arith
+
 pub won_stocked : (k : Shape) (c d e f : Seated) (x : Slot) (s : Stop) (depth need code first leaf : ℕ) (t : Target) (pages : List ℕ) → IsMade k c d x s depth t pages need → length pages ≡ 16
     → e ≡ with_account d (after_link (after_split d.account (take need pages) leaf) x.stop.number x.index code first false) → IsRetired e f leaf → IsStocked f
 won_stocked k c d e f x s depth need code first leaf t pages m long won r =
@@ -85,6 +103,7 @@ won_stocked k c d e f x s depth need code first leaf t pages m long won r =
     let stock : f.stock ≡ d.stock = ap (λ (y : Seated). y.stock) r.after ∙ ap (λ (y : Seated). y.stock) won in
     let parted : e.account.pool.parted ≡ u ∷ [] = ap (λ (y : Seated). y.account.pool.parted) won ∙ (ap (λ (p : PoolAccount). p.parted) (link_pool (after_split d.account (take need pages) leaf) x.stop.number x.index code first false) ∙ ap (λ (us : List Parted). u ∷ us) m.takes.taken.clean) in record {
       own = λ q mine. subst (λ (l : List ℕ). IsAmong l q) (sym stock) (won_stock k c d e f x s depth need code first leaf t pages m long won r q mine);
+      few = won_few k c d e f x s depth need code first leaf t pages m long won r;
       size = (let same = ap length stock in let size = m.takes.taken.size in omega arith);
       clean = ap (λ (y : Seated). y.account.pool.parted) r.after ∙ (ap (λ (us : List Parted). without (λ v. v.page) leaf (stamp_all r.epoch us)) parted ∙ ap (λ b. cond b [] (record { page = leaf; stamp = r.epoch } ∷ [])) (eq-eqb leaf leaf refl));
     }
@@ -109,7 +128,9 @@ won_comes k c d e f x s next depth need first leaf t pages h m won r some_first 
       grows = epoch_grows e.account f.account r.epoch (ap (λ (y : Seated). lists_of y.account) r.after);
       longer = (let same = ap length reached in omega arith);
       stays = λ j less. absurd (omega arith);
-    } in record {
+    } in
+    let counts : f.account.counts ≡ more_linked (length (take need pages)) d.account.counts = ap (λ (y : Seated). y.account.counts) r.after ∙ (ap (λ (y : Seated). y.account.counts) won ∙ counts_link a x.stop.number x.index code first false) in record {
+      linked = (let after = ap (λ (y : Counts). y.linked) counts in let before = ap (λ (y : Counts). y.linked) m.takes.linked in let most = take_most need pages in let few = m.few in omega arith);
       goes = goes_on 0 0 c e f (omega arith) (goes_on 0 0 c d e (omega arith) (goes_less 0 (length c.account.tree.reached) c d (omega arith) m.takes.goes) goes_e) goes_f;
       number = (let now : next.number ≡ s.number + 1 = ap (λ (y : Stop). y.number) is in omega arith);
       low = h.low;
@@ -126,6 +147,7 @@ lost_taken k c d e x s depth need code found t pages m lost =
       own = λ q mine. taken.own q (subst (λ (p : PoolAccount). 0 < owns q p.own) pool mine);
       mine = λ i less. let (page, mine, out) = taken.mine i less in (page, subst (λ (p : PoolAccount). 0 < owns (get_or pages i 0) p.own) (sym pool) mine, out);
       apart = taken.apart;
+      few = (let own : length (after_link d.account x.stop.number x.index code found false).pool.own ≡ length d.account.pool.own = ap (λ (p : PoolAccount). length p.own) pool in let few = taken.few in omega arith);
       size = taken.size;
       clean = ap (λ (p : PoolAccount). p.parted) pool ∙ taken.clean;
     }
@@ -141,7 +163,9 @@ lost_comes k c d e f x s next depth need found t pages h m lost kept inside is =
     let g : Grown d.account b (led (here d.account x.stop) x.index code found false) = grown_link d.account x.stop x.index code found false at_d.pair.reached some_found in
     let goes_e : Goes 0 d e = grown_goes 0 d e b (led (here d.account x.stop) x.index code found false) (omega arith) lost (rest_link d.account x.stop.number x.index code found false) (lists_link d.account x.stop.number x.index code found false) g in
     let goes : Goes 0 c e = goes_on 0 0 c d e (omega arith) (goes_less 0 (length c.account.tree.reached) c d (omega arith) m.takes.goes) goes_e in
+    let counts : e.account.counts ≡ d.account.counts = ap (λ (y : Seated). y.account.counts) lost ∙ counts_link d.account x.stop.number x.index code found false in
     subst (λ (y : Seated). ComesIn k c y s next (depth + 1) t) (sym kept) record {
+      linked = (let after = ap (λ (y : Counts). y.linked) counts in let before = ap (λ (y : Counts). y.linked) m.takes.linked in omega arith);
       goes = record { table = goes.table; shape = goes.shape; rest = goes.rest; grows = goes.grows; longer = goes.longer; stays = goes.stays };
       number = (let now : next.number ≡ s.number + 1 = ap (λ (y : Stop). y.number) is in omega arith);
       low = h.low;

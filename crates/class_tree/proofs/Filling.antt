@@ -11,7 +11,7 @@ use Rattle.board_core.specs.Plan.{words_at, own_word, IsWhole}
 use Rattle.board_core.specs.After.{with_word, put_if, put_own, after_own}
 use Rattle.board_core.specs.Steps.{MayStoreOwn}
 use Rattle.board_core.proofs.PageSums.{where_other}
-use Rattle.board_core.proofs.StoreOwn.{owns_put}
+use Rattle.board_core.proofs.StoreOwn.{owns_put, length_put}
 use Rattle.board.specs.Seated.{Place, Seated, IsOf, with_account}
 use Rattle.class_tree.specs.Splitting.{AreStored, AreFilled, StoresOnly}
 
@@ -84,7 +84,7 @@ put_else word page i n q count (o ∷ os) other h above (suc j) x there at = put
 -- ---- loops of stores
 
 pub only_none : (c : Seated) (Touched : ℕ → Type 0) → StoresOnly c c Touched
-only_none c Touched = record { after = refl; same = λ q. refl; others = λ q o word n h. h }
+only_none c Touched = record { after = refl; same = λ q. refl; size = refl; others = λ q o word n h. h }
 
 pub stored_none : (own : List Own) (page : ℕ) (word : ℕ → ℕ) → AreStored own page word 0
 stored_none own page word more = absurd (omega arith)
@@ -95,6 +95,7 @@ only_more c d e Touched p i n h t after =
       after = (after ∙ (λ t. with_account d (record d.account { pool = record d.account.pool { own = sym own t } })))
           ∙ ap (λ (x : Seated). with_account x (record x.account { pool = record x.account.pool { own = e.account.pool.own } })) h.after;
       same = λ q. ap (owns q) own ∙ (owns_put p i n q d.account.pool.own ∙ h.same q);
+      size = ap length own ∙ (length_put p i n d.account.pool.own ∙ h.size);
       others = λ q o word m old. subst (λ (os : List Own). AreStored os q word m) (sym own) (put_else word p i n q m d.account.pool.own (λ y. o (subst Touched (sym y) t)) (h.others q o word m old));
     }
 
@@ -102,11 +103,12 @@ pub only_then : (c d e : Seated) (T U V : ℕ → Type 0) → StoresOnly c d T �
 only_then c d e T U V h k s t = record {
   after = k.after ∙ ap (λ (x : Seated). with_account x (record x.account { pool = record x.account.pool { own = e.account.pool.own } })) h.after;
   same = λ q. k.same q ∙ h.same q;
+  size = k.size ∙ h.size;
   others = λ q o word n old. k.others q (λ y. o (t q y)) word n (h.others q (λ y. o (s q y)) word n old);
 }
 
 pub only_wider : (c d : Seated) (T U : ℕ → Type 0) → StoresOnly c d T → ((q : ℕ) → T q → U q) → StoresOnly c d U
-only_wider c d T U h s = record { after = h.after; same = h.same; others = λ q o word n old. h.others q (λ y. o (s q y)) word n old }
+only_wider c d T U h s = record { after = h.after; same = h.same; size = h.size; others = λ q o word n old. h.others q (λ y. o (s q y)) word n old }
 
 pub only_of : (b : Place) (c d : Seated) (Touched : ℕ → Type 0) → IsOf b c → StoresOnly c d Touched → IsOf b d
 only_of b c d Touched of h = subst (IsOf b) (sym h.after) record { table = of.table; shape = of.shape }

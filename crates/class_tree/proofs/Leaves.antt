@@ -12,7 +12,7 @@ use Rattle.board_core.specs.ClassTree.{chained, kind_of, header_of}
 use Rattle.board_core.specs.ChainRule.{HasWalked}
 use Rattle.board_core.specs.Loaded.{IsPage, IsToPlace, HasStored, one_word, next_place}
 use Rattle.board_core.specs.After.{visited, after_answer, after_linked, after_more, next_of}
-use Rattle.board_core.specs.Steps.{MayLinkMoreLeaf}
+use Rattle.board_core.specs.Steps.{MayLinkMoreLeaf, MayLink}
 use Rattle.board.specs.Seated.{Place, Seated, IsOf, IsLoader, number_in, with_account, with_stock}
 use Rattle.class_tree.specs.declared.walks.Stop.{Stop}
 use Rattle.class_tree.specs.declared.walks.Target.{Target}
@@ -27,6 +27,7 @@ use Rattle.class_tree.proofs.Chain.{IsWhole, whole, whole_less, next_at, IsAtEnd
 use Rattle.class_tree.proofs.Searching.{goes_less, reads_goes, full_on, none_full, all_full, chain_refused, has_walked}
 use Rattle.class_tree.proofs.Entering.{to_place, goes_places}
 use Rattle.class_tree.proofs.Loadings.{grows_equal}
+use Rattle.class_tree.proofs.Counting.{counts_more, reads_counts, may_on}
 
 -- leaves of the last depth chain
 deep_enough : (n : ℕ) → n ≡ 5 → chained ≤ n
@@ -42,7 +43,7 @@ pub places_loader : (c d : Seated) (row : Row) → Places c d row → IsLoader c
 places_loader c d row p loader = subst (λ (w : Who). w ≡ Loader (number_in w)) (sym (ap (λ (x : Rest). x.who) p.rest)) loader
 
 pub enters_stocked : (c d : Seated) (row : Row) → EntersRow c d row → IsStocked c → IsStocked d
-enters_stocked c d row p s = subst (λ (x : PoolAccount × List ℕ). IsStocked (record d { account = record d.account { pool = x.0 }; stock = x.1 })) (λ i. (sym p.pool i, sym p.stock i)) record { own = s.own; size = s.size; clean = s.clean }
+enters_stocked c d row p s = subst (λ (x : PoolAccount × List ℕ). IsStocked (record d { account = record d.account { pool = x.0 }; stock = x.1 })) (λ i. (sym p.pool i, sym p.stock i)) record { own = s.own; few = s.few; size = s.size; clean = s.clean }
 
 -- the row was placed with a new page
 pub linked_places : (n : ℕ) (c e f : Seated) (page : ℕ) (row : Row) → Goes n c e → f ≡ with_account e (after_linked e.account page (row ∷ [])) → Places c f row
@@ -67,14 +68,15 @@ leaf_read k c d s next depth rank n t h e some_n inside is =
       goes = grown_goes (s.number + 1) c d (after_more c.account s.number n) (next_of (here c.account s) n) (omega arith) e (rest_more c.account s.number n) (lists_more c.account s.number n) (grown_more c.account s n less some_n);
       number = ap (λ (x : Stop). x.number) is;
       leaf = leaf_next k c.account d.account s next depth rank n t w h.deep h.target (ap (λ (x : Seated). x.account) e) some_n inside is;
+      linked = ap (λ (x : Seated). x.account.counts) e ∙ counts_more c.account s.number n;
     }
 
 pub leaf_end : (k : Shape) (c d e : Seated) (s : Stop) (depth rank word page header first : ℕ) (t : Target) → IsAtLeaf k c.account s depth rank 14 t → d ≡ with_account c (after_more c.account s.number word) → word ≡ 0 → IsReady k d e page header first → IsAtEnd k c e s (take depth t.codes) rank true
 leaf_end k c d e s depth rank word page header first t h load none ready = at_end_of k c d e s (take depth t.codes) rank word page header first true (whole k c.account s (take depth t.codes) rank true h.at) load none ready
 
 pub may_link_leaf : (k : Shape) (c d e : Seated) (s : Stop) (rank word page header : ℕ) (t : Target) → IsAtLeaf k c.account s 5 rank 14 t → rank + 1 < k.chain → d ≡ with_account c (after_more c.account s.number word) → word ≡ 0
-    → header ≡ kind_of true + 4 * 5 + 32 * (rank + 1) → IsReady k d e page header t.entry → MayLinkMoreLeaf k e.account s.number page t.row
-may_link_leaf k c d e s rank word page header t h room load none is ready =
+    → header ≡ kind_of true + 4 * 5 + 32 * (rank + 1) → IsReady k d e page header t.entry → MayLink c.account 1 → MayLinkMoreLeaf k e.account s.number page t.row
+may_link_leaf k c d e s rank word page header t h room load none is ready may =
     let path : List ℕ = take 5 t.codes in
     let end = leaf_end k c d e s 5 rank word page header t.entry t h load none ready in
     let w = end.whole_page in
@@ -84,6 +86,7 @@ may_link_leaf k c d e s rank word page header t h room load none is ready =
         load = may_load_more k e.account s path rank true w;
         rank = (let at = w.at in omega arith);
         new = subst (λ (n : ℕ). HasStored e.account page (one_word (header_of (next_place (here e.account s))) n)) (sym target.entry) (stored_header e.account page header _ t.entry (next_header (here e.account s) path 5 rank header true w.on long w.at w.kind is) ready.stored);
+        few = may_on 1 c.account e.account end.goes.rest end.linked may;
       };
       leaf = w.kind;
       deep = deep_enough (length (here e.account s).path) (ap length w.on ∙ long);
@@ -102,6 +105,7 @@ leaf_lost k c d e f g s next depth rank word found page header t h load none rea
       goes = record { table = goes_f.table; shape = goes_f.shape; rest = goes_f.rest; grows = goes_f.grows; longer = goes_f.longer; stays = goes_f.stays };
       number = ap (λ (x : Stop). x.number) is;
       leaf = leaf_f;
+      linked = ap (λ (x : Seated). x.account.counts) link ∙ (counts_more e.account s.number found ∙ end.linked);
     }
 
 pub some_next : (k : Shape) (c d : Seated) (s : Stop) (depth rank : ℕ) (t : Target) (o : Option Stop) (next : Stop) → o ≡ Some next → GoesBehind k c d s depth rank t o → IsNextLeaf k c d s next depth rank t
@@ -112,18 +116,23 @@ some_next k c d s depth rank t o next e g = subst (GoesBehind k c d s depth rank
 pub record IsAlongLeaves (k : Shape) (c d : Seated) (first s : Stop) (depth rank : ℕ) (t : Target) : Type 0 where
   pub leaf : IsAtLeaf k d.account s depth rank 0 t
   pub goes : Goes 0 c d
+  pub linked : d.account.counts ≡ c.account.counts
   pub full : AreFull d.account s.number (take depth t.codes) true rank
   pub number : s.number ≡ first.number + rank
 
 pub leaves_first : (k : Shape) (c : Seated) (s : Stop) (depth : ℕ) (t : Target) → IsAtLeaf k c.account s depth 0 0 t → IsAlongLeaves k c c s s depth 0 t
-leaves_first k c s depth t h = record { leaf = h; goes = goes_same 0 c; full = none_full c.account s.number (take depth t.codes) true; number = omega arith }
+leaves_first k c s depth t h = record { leaf = h; goes = goes_same 0 c; linked = refl; full = none_full c.account s.number (take depth t.codes) true; number = omega arith }
 
 pub leaves_read : (k : Shape) (c d e : Seated) (first s : Stop) (depth rank : ℕ) (t : Target) → IsAlongLeaves k c d first s depth rank t → Reads d e s.number → Goes 0 c e
 leaves_read k c d e first s depth rank t h reads = goes_on 0 0 c d e (omega arith) h.goes (goes_less 0 s.number d e (omega arith) (reads_goes s.number d e reads))
 
+pub leaves_may : (k : Shape) (c d e : Seated) (first s : Stop) (depth rank : ℕ) (t : Target) → IsAlongLeaves k c d first s depth rank t → Reads d e s.number → MayLink c.account 1 → MayLink e.account 1
+leaves_may k c d e first s depth rank t h reads may = may_on 1 c.account e.account (leaves_read k c d e first s depth rank t h reads).rest (reads_counts s.number d e reads ∙ h.linked) may
+
 pub leaves_next : (k : Shape) (c d e f : Seated) (first s next : Stop) (depth rank : ℕ) (t : Target) → IsAlongLeaves k c d first s depth rank t → Reads d e s.number → IsAtLeaf k e.account s depth rank 14 t → IsNextLeaf k e f s next depth rank t → IsAlongLeaves k c f first next depth (rank + 1) t
 leaves_next k c d e f first s next depth rank t h reads end n = record {
   leaf = n.leaf;
+  linked = n.linked ∙ (reads_counts s.number d e reads ∙ h.linked);
   goes = goes_on 0 0 c e f (omega arith) (leaves_read k c d e first s depth rank t h reads) (goes_less 0 (s.number + 1) e f (omega arith) n.goes);
   full = subst (λ (m : ℕ). AreFull f.account m (take depth t.codes) true (rank + 1)) (sym n.number)
       (full_on k d.account e.account f.account s (take depth t.codes) rank true h.full (reads_goes s.number d e reads).stays end.at n.goes.stays);

@@ -1,4 +1,5 @@
 mod Pages
+mod Counting
 mod Finding
 mod Making
 mod Taking

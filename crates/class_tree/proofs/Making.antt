@@ -12,7 +12,7 @@ use Rattle.board_core.specs.Sheets.{owns}
 use Rattle.board_core.specs.Loaded.{IsPage, HasOwn, HasStored, one_word}
 use Rattle.board_core.specs.After.{with_word, put_if, put_own, after_own}
 use Rattle.board_core.specs.Steps.{MayStoreOwn}
-use Rattle.board_core.proofs.StoreOwn.{owns_put}
+use Rattle.board_core.proofs.StoreOwn.{owns_put, length_put}
 use Rattle.board.specs.Seated.{Place, Seated, IsOf, with_account}
 use Rattle.class_tree.specs.Stocked.{HasMade, fresh_word}
 
@@ -57,7 +57,7 @@ put_stored words page i n (o ∷ os) less is h more (suc j) x there at = put_sto
 -- ---- the loop
 
 pub made_none : (c : Seated) (page header first : ℕ) → HasMade c c page header first 0
-made_none c page header first = record { after = refl; same = λ q. refl; stored = λ none. absurd (omega arith) }
+made_none c page header first = record { after = refl; same = λ q. refl; size = refl; stored = λ none. absurd (omega arith) }
 
 pub made_of : (b : Place) (c d : Seated) (page header first count : ℕ) → IsOf b c → HasMade c d page header first count → IsOf b d
 made_of b c d page header first count of h = subst (IsOf b) (sym h.after) record { table = of.table; shape = of.shape }
@@ -78,6 +78,7 @@ made_more c d e page header first i word small h is after =
       after = (after ∙ (λ t. with_account d (record d.account { pool = record d.account.pool { own = sym own t } })))
           ∙ ap (λ (x : Seated). with_account x (record x.account { pool = record x.account.pool { own = e.account.pool.own } })) h.after;
       same = λ q. ap (owns q) own ∙ (owns_put page i word q d.account.pool.own ∙ h.same q);
+      size = ap length own ∙ (length_put page i word d.account.pool.own ∙ h.size);
       stored = λ more. subst (λ (x : ℕ × List Own). Each (λ o. o.page ≡ page → o.words ≡ take x.0 (one_word header first)) x.1) (λ t. ((let z : suc i ≡ i + 1 = omega arith in z) t, sym own t))
           (put_stored (one_word header first) page i word d.account.pool.own small (sym (word_is header first i) ∙ sym is) h.stored (omega arith));
     }

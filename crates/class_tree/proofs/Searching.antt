@@ -14,7 +14,7 @@ use Rattle.board_core.specs.declared.room.Row.{Row}
 use Rattle.board_core.specs.ChainRule.{HasWalked, IsToldChain}
 use Rattle.board_core.specs.Truths.{IsTrueLog, IsTrueRoom, IsTruePool}
 use Rattle.board_core.specs.Histories.{history_of}
-use Rattle.board_core.specs.Steps.{AreTrue}
+use Rattle.board_core.specs.Steps.{AreTrue, MayLink}
 use Rattle.board_core.proofs.Lists.{each_none, each_cons}
 use Rattle.board_core.specs.ClassTree.{page_room}
 use Rattle.board_core.specs.After.{visited, noted, after_answer, after_more, after_link}
@@ -26,11 +26,15 @@ use Rattle.class_tree.specs.declared.walks.Stop.{Stop}
 use Rattle.class_tree.specs.declared.walks.Target.{Target}
 use Rattle.class_tree.specs.Inserting.{IsStocked, IsNowhere, WasFull, HasFullChain}
 use Rattle.class_tree.specs.Refusing.{Answers, WasRefused, LacksPages, WasFullChain, Stops}
-use Rattle.class_tree.specs.Walking.{here, Rest, rest_of, Shown, shown_of, IsAt, IsSeeking, HasCode, IsDown, Goes, Reads, IsNext, IsFound, WasFullAt, AreFull}
+use Rattle.class_tree.specs.Walking.{here, Rest, rest_of, Shown, shown_of, IsAt, IsSeeking, HasCode, IsDown, Goes, Reads, IsNext, IsFound, WasFullAt, AreFull, IsMadeBehind, GoesAlong}
 use Rattle.class_tree.proofs.Finding.{absent, below_code}
 use Rattle.class_tree.proofs.Grown.{goes_on, goes_same, rest_more, rest_link, lists_more, lists_link}
 use Rattle.class_tree.proofs.Chain.{depth_is}
 use Rattle.class_tree.proofs.Loadings.{lists_of, grows_on, grows_equal}
+use Rattle.class_tree.specs.declared.find.NextPage.{NextPage}
+use Rattle.class_tree.specs.declared.find.NextPage.TheVariants.{There, Made}
+use Rattle.class_tree.proofs.Counting.{reads_counts, may_on}
+use Rattle.board_core.specs.declared.tree.Counts.{Counts}
 
 -- ---- from one part of a walk to the next
 
@@ -51,7 +55,7 @@ pub goes_of : (b : Place) (n : ℕ) (c d : Seated) → Goes n c d → IsOf b c �
 goes_of b n c d g of = record { table = g.table ∙ of.table; shape = g.shape ∙ of.shape }
 
 pub reads_stocked : (n : ℕ) (c d : Seated) → Reads c d n → IsStocked c → IsStocked d
-reads_stocked n c d r s = subst IsStocked (sym r.only) record { own = s.own; size = s.size; clean = s.clean }
+reads_stocked n c d r s = subst IsStocked (sym r.only) record { own = s.own; few = s.few; size = s.size; clean = s.clean }
 
 pub reads_loader : (n : ℕ) (c d : Seated) → Reads c d n → IsLoader c → IsLoader d
 reads_loader n c d r loader = subst (λ (w : Who). w ≡ Loader (number_in w)) (sym (ap (λ (x : Seated). x.account.who) r.only)) loader
@@ -214,13 +218,14 @@ pub chain_stops : (k : Shape) (c d : Seated) (row : Row) (x : InsertError) → x
 chain_stops k c d row x is w = subst (Stops k c d row) (sym is) w
 
 pub full_stocked : (k : Shape) (d e : Seated) → e ≡ with_account d (after_answer d.account (ChainWasFull k.chain ∷ [])) → IsStocked d → IsStocked e
-full_stocked k d e after s = subst IsStocked (sym after) record { own = s.own; size = s.size; clean = s.clean }
+full_stocked k d e after s = subst IsStocked (sym after) record { own = s.own; few = s.few; size = s.size; clean = s.clean }
 
 -- ---- the loop
 
 pub record IsAlong (k : Shape) (c d : Seated) (first s : Stop) (depth rank : ℕ) (t : Target) : Type 0 where
   pub seeking : IsSeeking k d.account s depth rank 0 t
   pub goes : Goes 0 c d
+  pub linked : d.account.counts ≡ c.account.counts
   pub full : AreFull d.account s.number (take depth t.codes) false rank
   pub number : s.number ≡ first.number + rank
 
@@ -228,13 +233,15 @@ pub along_first : (k : Shape) (c : Seated) (s : Stop) (depth : ℕ) (t : Target)
 along_first k c s depth t deep h = record {
   seeking = record { at = h.at; deep = deep; target = h.target; fresh = h.fresh (get_or t.codes depth 0); high = h.high };
   goes = goes_same 0 c;
+  linked = refl;
   full = none_full c.account s.number (take depth t.codes) false;
   number = omega arith;
 }
 
-pub along_next : (k : Shape) (c d e f : Seated) (first s next : Stop) (depth rank : ℕ) (t : Target) → IsAlong k c d first s depth rank t → Reads d e s.number → IsSeeking k e.account s depth rank 7 t → IsNext k e f s next depth rank t → IsAlong k c f first next depth (rank + 1) t
-along_next k c d e f first s next depth rank t h reads seven n = record {
+pub along_next : (k : Shape) (c d e f : Seated) (first s next : Stop) (depth rank : ℕ) (t : Target) → IsAlong k c d first s depth rank t → Reads d e s.number → IsSeeking k e.account s depth rank 7 t → IsNext k e f s next depth rank t → f.account.counts ≡ e.account.counts → IsAlong k c f first next depth (rank + 1) t
+along_next k c d e f first s next depth rank t h reads seven n linked = record {
   seeking = n.seeking;
+  linked = linked ∙ (reads_counts s.number d e reads ∙ h.linked);
   goes = goes_on 0 0 c d f (omega arith) h.goes (goes_on 0 0 d e f (omega arith) (goes_less 0 s.number d e (omega arith) (reads_goes s.number d e reads)) (goes_less 0 (s.number + 1) e f (omega arith) n.goes));
   full = subst (λ (m : ℕ). AreFull f.account m (take depth t.codes) false (rank + 1)) (sym n.number)
       (full_on k d.account e.account f.account s (take depth t.codes) rank false h.full (reads_goes s.number d e reads).stays seven.at n.goes.stays);
@@ -250,7 +257,27 @@ along_found k c d e first s depth rank index t h reads code low less = record {
   goes = along_read k c d e first s depth rank t h reads;
   code = code;
   number = (let number = h.number in omega arith);
+  linked = (let same = ap (λ (x : Counts). x.linked) (reads_counts s.number d e reads ∙ h.linked) in omega arith);
 }
+
+-- the code was linked with a page behind the last one
+pub made_found : (k : Shape) (c d e f : Seated) (first s next : Stop) (depth rank : ℕ) (t : Target) → IsAlong k c d first s depth rank t → Reads d e s.number → IsMadeBehind k e f s next depth rank t → first.number ≤ 65537 * depth → rank + 1 < 65536 → IsFound k c f (record { stop = next; index = 0 }) depth t
+made_found k c d e f first s next depth rank t h reads m low less = record {
+  goes = goes_on 0 0 c e f (omega arith) (along_read k c d e first s depth rank t h reads)
+      (goes_on 0 0 e m.middle f (omega arith) (goes_less 0 (s.number + 1) e m.middle (omega arith) m.on.goes) (goes_less 0 next.number m.middle f (omega arith) (reads_goes next.number m.middle f m.reads)));
+  code = m.code;
+  number = (let number = h.number in let now = m.on.number in omega arith);
+  linked = (let same = ap (λ (x : Counts). x.linked) (reads_counts s.number d e reads ∙ h.linked) in let one = m.linked in omega arith);
+}
+
+pub along_may : (k : Shape) (c d e : Seated) (first s : Stop) (depth rank : ℕ) (t : Target) → IsAlong k c d first s depth rank t → Reads d e s.number → MayLink c.account 1 → MayLink e.account 1
+along_may k c d e first s depth rank t h reads may = may_on 1 c.account e.account (along_read k c d e first s depth rank t h reads).rest (reads_counts s.number d e reads ∙ h.linked) may
+
+pub goes_there : (k : Shape) (c d : Seated) (s : Stop) (depth rank : ℕ) (t : Target) (o : NextPage) (next : Stop) → o ≡ There next → GoesAlong k c d s depth rank t o → IsNext k c d s next depth rank t × (d.account.counts ≡ c.account.counts)
+goes_there k c d s depth rank t o next e g = subst (GoesAlong k c d s depth rank t) e g
+
+pub goes_made : (k : Shape) (c d : Seated) (s : Stop) (depth rank : ℕ) (t : Target) (o : NextPage) (next : Stop) → o ≡ Made next → GoesAlong k c d s depth rank t o → IsMadeBehind k c d s next depth rank t
+goes_made k c d s depth rank t o next e g = subst (GoesAlong k c d s depth rank t) e g
 
 pub along_full : (k : Shape) (c d e f : Seated) (first s : Stop) (depth rank : ℕ) (t : Target) → IsAlong k c d first s depth rank t → Reads d e s.number → IsSeeking k e.account s depth rank 7 t → rank + 1 ≡ k.chain → f ≡ with_account e (after_answer e.account (ChainWasFull k.chain ∷ [])) → WasFullChain k c f t.row k.chain
 along_full k c d e f first s depth rank t h reads seven end after = chain_refused k 0 c e f t.row (along_read k c d e first s depth rank t h reads) (inner_chain k d.account e.account s depth rank t h.full (reads_goes s.number d e reads).stays seven end) after

@@ -1,5 +1,5 @@
 -- The pages that are made of a full leaf's rows may take its place; where too few were found, it is said how many were needed.
-use Rattle.std.proofs.Common.{◌≡◌, ℕ, zero, suc, ◌+◌, ◌<◌, ◌≤◌, true, List, [], ◌∷◌, ◌++◌, length, get_or, take, drop, refl, sym, ap, ◌∙◌, subst, arith, inl, inr, ⊎_elim, length-take-le, take-append-drop}
+use Rattle.std.proofs.Common.{◌≡◌, ℕ, zero, suc, ◌+◌, ◌<◌, ◌≤◌, true, List, [], ◌∷◌, ◌++◌, length, get_or, take, drop, refl, sym, ap, ◌∙◌, subst, arith, inl, inr, ⊎_elim, length-take-le, take-append-drop, ◌*◌}
 use Rattle.std.proofs.Math.ListN.{get_or-eq_default}
 use Rattle.std.proofs.lemmas.Bool.{cases_lt}
 use mathlib.Core.Option.{some, some-injective, some-ne-none}
@@ -16,7 +16,7 @@ use Rattle.board_core.specs.declared.entry.Entry.TheVariants.{NoPage as PageWant
 use Rattle.board_core.specs.After.{visited, noted}
 use Rattle.board_core.proofs.Lists.{inside}
 use Rattle.board_core.specs.Plan.{own_word, IsWhole, MayHaveCodes, Plan}
-use Rattle.board_core.specs.Steps.{MayExchangeLeaf}
+use Rattle.board_core.specs.Steps.{MayExchangeLeaf, MayLink}
 use Rattle.board_core.proofs.PageLoads.{at_visit}
 use Rattle.board.specs.Seated.{Place, Seated, IsOf}
 use Rattle.leaf_split.specs.Groups.{AreRows, AreApart, AreGroups}
@@ -43,6 +43,8 @@ use Rattle.class_tree.proofs.Pairs.{pair_load, pair_same, longer_path, codes_lon
 use Rattle.class_tree.proofs.Behind.{same_at}
 use Rattle.class_tree.proofs.Reading.{learns_reached, code_still, row_still}
 use Rattle.class_tree.proofs.Filling.{words_there, is_whole}
+use Rattle.class_tree.proofs.Counting.{may_on, take_most}
+use Rattle.board_core.specs.CountRule.{most_linked, insertions_of}
 
 -- ---- the first of a list
 
@@ -204,8 +206,8 @@ module _ (k : Shape) (a : Account) (x : Slot) (s : Stop) (depth count need : ℕ
   pub some_page : 0 < need
   some_page = let some = some_code in omega arith
 
-  pub may_exchange : MayExchangeLeaf k a x.stop.number x.index (get_or t.codes depth 0) s.number used (get_or pages 0 0)
-  may_exchange =
+  pub may_exchange : MayLink a (length used) → MayExchangeLeaf k a x.stop.number x.index (get_or t.codes depth 0) s.number used (get_or pages 0 0)
+  may_exchange few =
       let f = at_full k a x s depth t h in
       let codes = codes_long k a t h.leaf.target in
       let first : number 0 ≡ get_or pages 0 0 = taken_at pages need 0 some_page in record {
@@ -218,6 +220,7 @@ module _ (k : Shape) (a : Account) (x : Slot) (s : Stop) (depth count need : ℕ
         whole = λ j q there. let (less, is) = taken_is pages need j q there in
             let same : number j ≡ q = taken_at pages need j less ∙ is in
             subst (IsWhole a) same (is_whole a (number j) (word_of (depth + 1) count code entry number j) (owned j less) (stored j less));
+        few = few;
         places = stands;
         plan = λ all m. subst (Plan (own_word a.pool.own) stands all (IsAmong used) a.tree.reached (here a x.stop) (here a s) x.index) first (planned all m);
       }
@@ -309,6 +312,7 @@ taken_after c d pages n Touched s k =
       mine = λ t l. let (page, mine, out) = k.mine t l in
           (subst (λ (z : Shape). IsPage z (get_or pages t 0)) (sym shape) page, (let same = s.same (get_or pages t 0) in omega arith), λ among. out (subst (λ (z : List ℕ). IsAmong z (get_or pages t 0)) stock among));
       apart = k.apart;
+      few = (let own = s.size in let same = ap length stock in let few = k.few in omega arith);
       size = (let same = ap length stock in let size = k.size in omega arith);
       clean = ap (λ (x : Seated). x.account.pool.parted) s.after ∙ k.clean;
     }
@@ -319,13 +323,14 @@ takes_after c d e pages n l t f Touched s =
       goes = goes_on (length c.account.tree.reached) (length c.account.tree.reached) c e f (omega arith) (goes_on (length c.account.tree.reached) (length d.account.tree.reached) c d e before.longer before t.goes) (stores_goes (length c.account.tree.reached) e f Touched s);
       reached = stores_reached e f Touched s ∙ (t.reached ∙ learns_reached c d l);
       taken = taken_after e f pages n Touched s t.taken;
+      linked = ap (λ (x : Seated). x.account.counts) s.after ∙ (t.linked ∙ ap (λ (x : Seated). x.account.counts) l.only);
     }
 
 pub is_made : (k : Shape) (c d e f : Seated) (x : Slot) (s : Stop) (depth count need : ℕ) (t : Target) (pages rows nexts : List ℕ) (code held : ℕ → ℕ) (entry : ℕ → ℕ → ℕ) (Touched : ℕ → Type 0)
     → IsBehindFull k c.account x s depth t → Learns c d → AreRowsOf d.account (here d.account s) rows nexts 14 → AreGroups (λ i. get_or rows i 0) (λ i. get_or nexts i 0) 14 count code held entry
     → need ≡ pages_of count → length pages ≡ 16 → TakesAll d e pages need → StoresOnly e f Touched → AreFilled f.account.pool.own (take need pages) (word_of (depth + 1) count code entry (λ i. get_or (take need pages) i 0)) (length (take need pages))
-    → IsMade k c f x s depth t pages need
-is_made k c d e f x s depth count need t pages rows nexts code held entry Touched h l r g size long taken stores filled =
+    → MayLink c.account 16 → IsMade k c f x s depth t pages need
+is_made k c d e f x s depth count need t pages rows nexts code held entry Touched h l r g size long taken stores filled allowed =
     let few : need ≤ 16 = (let few = g.few in omega arith) in
     let all = takes_after c d e pages need l taken f Touched stores in
     let at_f = full_same k c.account f.account x s depth t all.reached all.goes.rest h in
@@ -336,7 +341,8 @@ is_made k c d e f x s depth count need t pages rows nexts code held entry Touche
       takes = all;
       few = few;
       some = some_page k f.account x s depth count need t pages rows nexts code held entry at_f rows_f g size room mine all.taken.apart filled;
-      may = may_exchange k f.account x s depth count need t pages rows nexts code held entry at_f rows_f g size room mine all.taken.apart filled;
+      may = may_exchange k f.account x s depth count need t pages rows nexts code held entry at_f rows_f g size room mine all.taken.apart filled
+          (let may_f = may_on 16 c.account f.account all.goes.rest all.linked allowed in let most = take_most need pages in omega arith);
     }
 
 pub used_mine : (b : Place) (c : Seated) (pages : List ℕ) (n : ℕ) → IsOf b c → AreTaken c pages n → (t : ℕ) → t < length (take n pages) → IsPage b.shape (get_or (take n pages) t 0) × HasOwn c.account (get_or (take n pages) t 0)

@@ -1,5 +1,5 @@
 -- What the calls of the pool leave of a walk.
-use Rattle.std.proofs.Common.{◌≡◌, ℕ, List, [], ◌∷◌, ◌++◌, length, refl, sym, ap, ◌∙◌, subst, arith, ⊎_elim, length-append}
+use Rattle.std.proofs.Common.{◌≡◌, ℕ, List, [], ◌∷◌, ◌++◌, length, refl, sym, ap, ◌∙◌, subst, arith, ⊎_elim, length-append, ◌≤◌, ◌+◌}
 use mathlib.Core.Option.{some, some-ne-none}
 use lib.ListN.{get_elem?}
 use Rattle.htss_defs.specs.declared.shape.Shape.{Shape}
@@ -110,6 +110,7 @@ given_but k c d page s g = record {
       (at_end d.stock page q i (ap (λ (l : List ℕ). get_elem? l i) (sym t.1) ∙ there)))
       (λ (t : (c.stock ≡ []) × HasFound k c d page). absurd (no_stock c.stock q t.0 (s.own q mine_before)))
       g.from;
+  few = (let more = g.more in let few = s.few in omega arith);
   mine = g.own;
   apart = g.apart;
   room = ⊎_elim
@@ -139,12 +140,14 @@ is_ready k c d e page header first s inside g m =
       inside = inside;
       but = record {
         own = λ q other mine. subst (λ (l : List ℕ). IsAmong l q) (sym stock) (but.own q other (let same = m.same q in omega arith));
+        few = (let own = m.size in let same = ap length stock in let few = but.few in omega arith);
         mine = (let same = m.same page in let old = but.mine in omega arith);
         apart = λ among. but.apart (subst (λ (l : List ℕ). IsAmong l page) stock among);
         room = (let same = ap length stock in let room = but.room in omega arith);
         clean = ap (λ (x : Seated). x.account.pool.parted) m.after ∙ but.clean;
       };
       stored = made_all d e page header first but.mine m;
+      linked = ap (λ (x : Seated). x.account.counts) m.after ∙ g.linked;
     }
 
 -- ---- no page
@@ -177,6 +180,7 @@ refused_clean k c d r clean = ap (λ (x : Seated). x.account.pool.parted) r.afte
 pub refused_stocked : (k : Shape) (c d : Seated) → IsStocked c → IsRefused k c d → IsStocked d
 refused_stocked k c d s r = record {
   own = λ q mine. subst (λ (l : List ℕ). IsAmong l q) (sym r.stock) (s.own q (let same = ap (owns q) r.own in omega arith));
+  few = (let own : length d.account.pool.own ≡ length c.account.pool.own = ap length r.own in let same = ap length r.stock in let few = s.few in omega arith);
   size = (let same = ap length r.stock in let size = s.size in omega arith);
   clean = refused_clean k c d r s.clean;
 }

@@ -1,5 +1,5 @@
 -- Pages taken one after the other, and kept again.
-use Rattle.std.proofs.Common.{◌≡◌, ◌≢◌, ℕ, ◌+◌, ◌<◌, List, [], ◌∷◌, ◌++◌, length, get_or, set, refl, sym, ap, ◌∙◌, subst, arith, inl, inr, ⊎_elim, length-append, get_or-set_same, get_or-set_other}
+use Rattle.std.proofs.Common.{◌≡◌, ◌≢◌, ℕ, ◌+◌, ◌<◌, List, [], ◌∷◌, ◌++◌, length, get_or, set, refl, sym, ap, ◌∙◌, subst, arith, inl, inr, ⊎_elim, length-append, get_or-set_same, get_or-set_other, ◌≤◌}
 use Rattle.std.proofs.lemmas.Bool.{cases_eq}
 use mathlib.Core.Option.{some, some-ne-none}
 use lib.ListN.{get_elem?}
@@ -20,12 +20,14 @@ use Rattle.class_tree.specs.Walking.{rest_of}
 use Rattle.class_tree.proofs.Grown.{goes_same, goes_on}
 use Rattle.class_tree.proofs.Searching.{refused_on}
 use Rattle.class_tree.proofs.Taking.{given_takes, given_goes, given_reached, was_refused, refused_reached, refused_clean}
+use Rattle.board_core.specs.CountRule.{most_own}
 
 pub none_taken : (c : Seated) (pages : List ℕ) → IsStocked c → AreTaken c pages 0
 none_taken c pages s = record {
   own = λ q mine. inl (s.own q mine);
   mine = λ t l. absurd (omega arith);
   apart = λ t u l. absurd (omega arith);
+  few = (let few = s.few in omega arith);
   size = (let size = s.size in omega arith);
   clean = s.clean;
 }
@@ -33,6 +35,7 @@ none_taken c pages s = record {
 pub all_kept : (c : Seated) (pages : List ℕ) → AreTaken c pages 0 → IsStocked c
 all_kept c pages k = record {
   own = λ q mine. ⊎_elim (λ (h : IsAmong c.stock q). h) (λ (h : (t : ℕ) × (t < 0) × (get_or pages t 0 ≡ q)). let l : h.0 < 0 = h.1 in absurd (omega arith)) (k.own q mine);
+  few = (let few = k.few in omega arith);
   size = (let size = k.size in omega arith);
   clean = k.clean;
 }
@@ -95,6 +98,7 @@ module _ (k : Shape) (c d : Seated) (pages more : List ℕ) (n p : ℕ) (taken :
         | inr un ↦ taken.apart j u (omega arith) (omega arith) (sym (others j jn) ∙ (e ∙ others u un))
       ]
     ];
+    few = (let more = g.more in let few = taken.few in omega arith);
     size = ⊎_elim
         (λ (t : (d ≡ with_stock c d.stock) × (c.stock ≡ d.stock ++ p ∷ [])). let longer = ap length t.1 ∙ length-append d.stock (p ∷ []) in let size = taken.size in omega arith)
         (λ (t : (c.stock ≡ []) × HasFound k c d p). let none = ap length (found_stock k c d p t.1 ∙ t.0) in omega arith)
@@ -103,14 +107,22 @@ module _ (k : Shape) (c d : Seated) (pages more : List ℕ) (n p : ℕ) (taken :
   }
 
 pub takes_none : (c : Seated) (pages : List ℕ) → IsStocked c → TakesAll c c pages 0
-takes_none c pages s = record { goes = goes_same (length c.account.tree.reached) c; reached = refl; taken = none_taken c pages s }
+takes_none c pages s = record { goes = goes_same (length c.account.tree.reached) c; reached = refl; taken = none_taken c pages s; linked = refl }
 
 pub takes_more : (k : Shape) (b c d : Seated) (pages : List ℕ) (n p : ℕ) → TakesAll b c pages n → IsGiven k c d p → IsPage k p → k ≡ d.shape → n < 16 → length pages ≡ 16 → TakesAll b d (set pages n p) (n + 1)
 takes_more k b c d pages n p t g inside shape few long = record {
   goes = goes_on (length b.account.tree.reached) (length c.account.tree.reached) b c d (t.goes.longer) t.goes (given_goes k c d p (length c.account.tree.reached) g);
   reached = given_reached k c d p g ∙ t.reached;
+  linked = g.linked ∙ t.linked;
   taken = take_more k c d pages (set pages n p) n p t.taken g (subst (λ (s : Shape). IsPage s p) shape inside) (given_takes k c d p g).shape few (get_or-set_same pages n p 0 (omega arith)) (λ j other. get_or-set_other pages n j p 0 other);
 }
+
+-- they are fewer than a loader may have
+pub few_taken : (c : Seated) (pages : List ℕ) (n : ℕ) → AreTaken c pages n → length c.account.pool.own < most_own
+few_taken c pages n k = let few = k.few in let size = k.size in omega arith
+
+pub few_stocked : (c : Seated) → IsStocked c → length c.account.pool.own < most_own
+few_stocked c s = let few = s.few in let size = s.size in omega arith
 
 -- ---- kept again
 
@@ -135,6 +147,7 @@ keep_one c d pages n m taken e kept = subst (λ (x : Seated). AreTaken x pages m
         (at_end c.stock (get_or pages m 0) (get_or pages t 0) i there),
   );
   apart = λ t u l o. taken.apart t u (omega arith) (omega arith);
+  few = (let longer = length-append c.stock (get_or pages m 0 ∷ []) in let few = taken.few in omega arith);
   size = (let longer = length-append c.stock (get_or pages m 0 ∷ []) in let size = taken.size in omega arith);
   clean = taken.clean;
 }
@@ -150,6 +163,7 @@ none_more k c d pages n taken shape r = record {
   mine = λ t l. let (page, mine, out) = taken.mine t l in
       (subst (λ (s : Shape). IsPage s (get_or pages t 0)) (sym shape) page, (let same = ap (owns (get_or pages t 0)) r.own in omega arith), λ among. out (subst (λ (l : List ℕ). IsAmong l (get_or pages t 0)) r.stock among));
   apart = taken.apart;
+  few = (let own : length d.account.pool.own ≡ length c.account.pool.own = ap length r.own in let same = ap length r.stock in let few = taken.few in omega arith);
   size = (let same = ap length r.stock in let size = taken.size in omega arith);
   clean = refused_clean k c d r taken.clean;
 }

@@ -23,9 +23,10 @@ use Rattle.class_tree.specs.Loading.{code_loads, LoadsOn}
 use Rattle.class_tree.specs.declared.insert.InsertError.{InsertError}
 use Rattle.class_tree.specs.declared.insert.InsertError.TheVariants.{NoPage, ChainFull}
 
--- each own page is kept for later, at most 32 are, and no page is unlinked without a stamp
+-- each own page is kept for later, once, at most 32 are, and no page is unlinked without a stamp
 pub record IsStocked (c : Seated) : Type 0 where
   pub own : (q : ℕ) → HasOwn c.account q → IsAmong c.stock q
+  pub few : length c.account.pool.own ≤ length c.stock
   pub size : length c.stock ≤ 32
   pub clean : c.account.pool.parted ≡ []
 

@@ -19,6 +19,7 @@ pub record IsNextLeaf (k : Shape) (c d : Seated) (s next : Stop) (depth rank : �
   pub goes : Goes (s.number + 1) c d
   pub number : next.number ≡ s.number + 1
   pub leaf : IsAtLeaf k d.account next depth (rank + 1) 0 t
+  pub linked : d.account.counts ≡ c.account.counts
 
 -- the row was placed behind a full leaf, or the walk goes on at the next one
 abbrev pub GoesBehind : Shape → Seated → Seated → Stop → ℕ → ℕ → Target → Option Stop → Type 0
@@ -54,6 +55,7 @@ pub record IsLed (k : Shape) (c d : Seated) (x : Slot) (next : Stop) (depth : �
   pub goes : Goes 0 c d
   pub number : next.number ≡ x.stop.number + 1
   pub behind : IsBehind k d.account x next depth t
+  pub linked : d.account.counts ≡ c.account.counts
 
 -- the row was placed at the link, or the walk stands behind it
 abbrev pub GoesBelow : Shape → Seated → Seated → Slot → ℕ → Target → Option Stop → Type 0
@@ -68,9 +70,11 @@ pub record IsBehindFull (k : Shape) (a : Account) (x : Slot) (s : Stop) (depth :
   pub above : AreHigh a depth
   pub other : x.stop.number ≢ s.number
 
--- the walk came to an inner chain of this depth, at this page or the one that was reached next
+-- the walk came to an inner chain of this depth, at this page or the one that was reached next. It has linked the pages of one split
+-- at most
 pub record ComesIn (k : Shape) (c d : Seated) (s next : Stop) (depth : ℕ) (t : Target) : Type 0 where
   pub goes : Goes 0 c d
+  pub linked : d.account.counts.linked ≤ c.account.counts.linked + 16
   pub number : next.number ≤ s.number + 1
   pub low : depth < 5
   pub down : IsDown k d.account next depth t
@@ -83,6 +87,7 @@ GoesOn k c d s depth t (Down next) = ComesIn k c d s next (depth + 1) t
 -- the row was placed, or the walk came one level down
 pub record ComesDown (k : Shape) (c d : Seated) (s next : Stop) (depth : ℕ) (t : Target) : Type 0 where
   pub goes : Goes 0 c d
+  pub linked : d.account.counts.linked ≤ c.account.counts.linked + 16
   pub number : next.number ≤ s.number + 2
   pub low : depth + 1 < 5
   pub down : IsDown k d.account next (depth + 1) t

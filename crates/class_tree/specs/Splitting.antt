@@ -54,6 +54,7 @@ pub record AreTaken (c : Seated) (pages : List ℕ) (n : ℕ) : Type 0 where
   pub own : (q : ℕ) → HasOwn c.account q → IsAmong c.stock q ⊎ ((t : ℕ) × (t < n) × (slice_index pages t ≡ q))
   pub mine : (t : ℕ) → t < n → IsPage c.shape (slice_index pages t) × HasOwn c.account (slice_index pages t) × ¬ (IsAmong c.stock (slice_index pages t))
   pub apart : (t u : ℕ) → t < n → u < n → slice_index pages t ≡ slice_index pages u → t ≡ u
+  pub few : length c.account.pool.own ≤ length c.stock + n
   pub size : length c.stock + n ≤ 32
   pub clean : c.account.pool.parted ≡ []
 
@@ -62,6 +63,7 @@ pub record TakesAll (c d : Seated) (pages : List ℕ) (n : ℕ) : Type 0 where
   pub goes : Goes (length c.account.tree.reached) c d
   pub reached : d.account.tree.reached ≡ c.account.tree.reached
   pub taken : AreTaken d pages n
+  pub linked : d.account.counts ≡ c.account.counts
 
 -- ---- what is stored in them
 
@@ -73,6 +75,7 @@ AreStored own page word n = 0 < n → Each (λ o. o.page ≡ page → (length o.
 pub record StoresOnly (c d : Seated) (Touched : ℕ → Type 0) : Type 0 where
   pub after : d ≡ with_account c (record c.account { pool = record c.account.pool { own = d.account.pool.own } })
   pub same : (q : ℕ) → owns q d.account.pool.own ≡ owns q c.account.pool.own
+  pub size : length d.account.pool.own ≡ length c.account.pool.own
   pub others : (q : ℕ) → (Touched q → ⊥) → (word : ℕ → ℕ) (n : ℕ) → AreStored c.account.pool.own q word n → AreStored d.account.pool.own q word n
 
 -- the first n of these pages have all their words

@@ -1,5 +1,5 @@
 -- Where a walk down the class tree stands, and what each part of it leaves of the account (this project's own).
-use Rattle.std.specs.Prelude.{◌≡◌, ◌≢◌, ℕ, ◌+◌, ◌*◌, ◌<◌, ◌≤◌, Bool, true, false, List, [], ◌∷◌, ◌++◌, length, slice_index, take}
+use Rattle.std.specs.Prelude.{◌≡◌, ◌≢◌, ℕ, ◌+◌, ◌*◌, ◌-◌, ◌<◌, ◌≤◌, Bool, true, false, List, [], ◌∷◌, ◌++◌, length, slice_index, take}
 use mathlib.Core.Option.{some}
 use lib.ListN.{get_elem?}
 use Rattle.htss_defs.specs.declared.shape.Shape.{Shape}
@@ -24,6 +24,8 @@ use Rattle.class_tree.specs.Loading.{code_loads, LoadsOn}
 use Rattle.class_tree.specs.declared.walks.Stop.{Stop}
 use Rattle.class_tree.specs.declared.walks.Slot.{Slot}
 use Rattle.class_tree.specs.declared.walks.Target.{Target}
+use Rattle.class_tree.specs.declared.find.NextPage.{NextPage}
+use Rattle.class_tree.specs.declared.find.NextPage.TheVariants.{There, Made}
 
 -- what is known of the page that a walk stands at
 abbrev pub here : Account → Stop → Reached
@@ -96,6 +98,11 @@ pub record IsAt (k : Shape) (a : Account) (s : Stop) (path : List ℕ) (rank : �
   pub unread : (here a s).more ≡ Unread
   pub not_zero : (here a s).zero ≡ false
 
+-- the pages that a walk may still link from an inner chain of this depth on: one there, at each depth below it one more and the
+-- sixteen of a split, and one leaf
+abbrev pub left_at : ℕ → ℕ
+left_at depth = 17 * (4 - depth) + 2
+
 -- the row that is to be placed, with its entry and its codes
 pub record IsTarget (k : Shape) (a : Account) (t : Target) : Type 0 where
   pub entry : entry_word t.row ≡ t.entry
@@ -167,9 +174,23 @@ pub record IsNext (k : Shape) (c d : Seated) (s next : Stop) (depth rank : ℕ) 
   pub number : next.number ≡ s.number + 1
   pub seeking : IsSeeking k d.account next depth (rank + 1) 0 t
 
--- the row's code of this depth was found
+-- the page behind it is an own one that was linked with the row's code, which stands in its first slot
+pub record IsMadeBehind (k : Shape) (c d : Seated) (s next : Stop) (depth rank : ℕ) (t : Target) : Type 0 where
+  pub middle : Seated
+  pub on : IsNext k c middle s next depth rank t
+  pub reads : Reads middle d next.number
+  pub code : HasCode k d.account (record { stop = next; index = 0 }) depth t
+  pub linked : d.account.counts.linked ≡ c.account.counts.linked + 1
+
+-- the search goes on at a page that was there, or ends at the one that was made for the code
+abbrev pub GoesAlong : Shape → Seated → Seated → Stop → ℕ → ℕ → Target → NextPage → Type 0
+GoesAlong k c d s depth rank t (There next) = IsNext k c d s next depth rank t × (d.account.counts ≡ c.account.counts)
+GoesAlong k c d s depth rank t (Made next) = IsMadeBehind k c d s next depth rank t
+
+-- the row's code of this depth was found, and one page was linked at most
 pub record IsFound (k : Shape) (c d : Seated) (x : Slot) (depth : ℕ) (t : Target) : Type 0 where
   pub goes : Goes 0 c d
+  pub linked : d.account.counts.linked ≤ c.account.counts.linked + 1
   pub code : HasCode k d.account x depth t
   pub number : x.stop.number < 65537 * depth + 65536
 

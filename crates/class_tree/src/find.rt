@@ -2,8 +2,9 @@
 ghost use Rattle.std.specs.Prelude.{◌≡◌, ◌≢◌, ℕ, ◌+◌, ◌*◌, ◌<◌, ◌≤◌, ◌^◌, false, length, slice_index, MatchOption, MatchResult};
 ghost use Rattle.board.specs.Seated.{IsOf, IsLoader, with_account};
 ghost use Rattle.board_core.specs.After.{after_slot};
+ghost use Rattle.board_core.specs.Steps.{MayLink};
 ghost use Rattle.class_tree.specs.Inserting.{IsStocked};
-ghost use Rattle.class_tree.specs.Walking.{IsSeeking, IsDown, HasCode, Goes, AreFull, IsNext, Reads, IsFound};
+ghost use Rattle.class_tree.specs.Walking.{IsSeeking, IsDown, HasCode, Goes, AreFull, GoesAlong, Reads, IsFound};
 ghost use Rattle.class_tree.specs.Refusing.{WasRefused, Stops};
 
 use crate::insert::{InsertError, refuse_chain};
@@ -63,6 +64,15 @@ fn find_in_page(
     None
 }
 
+/// What stands behind a full inner page.
+#[derive(Drop)]
+pub enum NextPage {
+    /// A page that is to be read.
+    There(Stop),
+    /// An own page that was linked, with the row's code in its first slot.
+    Made(Stop),
+}
+
 // The page behind this one, which is full. Where there is none, one is made for the code.
 fn next_inner(
     board: &Board,
@@ -71,24 +81,25 @@ fn next_inner(
     depth: u8,
     rank: u32,
     target: &Target,
-) -> Result<Stop, NoPage>
+) -> Result<NextPage, NoPage>
     requires fits { IsOf board.now caller.old }
     requires loader { IsLoader caller.old }
     requires stocked { IsStocked caller.old }
     requires seeking { IsSeeking board.now.shape caller.old.account at depth rank 7 target.now }
+    requires few { MayLink caller.old.account 1 }
     requires rank { (rank + 1 < board.now.shape.chain) × (rank + 1 < 2 ^ 16) }
     requires number { at.number < 2 ^ 32 }
     ensures of { IsOf board.now caller.new }
     ensures loader { IsLoader caller.new }
     ensures stocked { IsStocked caller.new }
     ensures next { MatchResult result
-        (λ next. IsNext board.now.shape caller.old caller.new at next depth rank target.now)
+        (λ next. GoesAlong board.now.shape caller.old caller.new at depth rank target.now next)
         (λ _. WasRefused board.now.shape caller.old caller.new 1) }
 {
     let next = at.number + 1;
     let word = load_more(board, caller, at.page, at.number);
     if word != 0 {
-        return Ok(stop_at(board, word, next));
+        return Ok(NextPage::There(stop_at(board, word, next)));
     }
     let code = target.codes[depth as usize];
     let header = header_word(false, depth, rank + 1);
@@ -98,13 +109,13 @@ fn next_inner(
     };
     let found = link_next_inner(board, caller, at.page, at.number, own, code);
     if found == 0 {
-        return Ok(Stop {
+        return Ok(NextPage::Made(Stop {
             page: own,
             number: next,
-        });
+        }));
     }
     keep(caller, own);
-    Ok(stop_at(board, found, next))
+    Ok(NextPage::There(stop_at(board, found, next)))
 }
 
 // The slot of the row's code of this depth in the chain of inner pages that begins at this page.
@@ -120,6 +131,7 @@ pub(crate) fn find_code(
     requires stocked { IsStocked caller.old }
     requires down { IsDown board.now.shape caller.old.account first depth target.now }
     requires deep { depth < 5 }
+    requires few { MayLink caller.old.account 1 }
     requires number { first.number ≤ 65537 * depth }
     ensures of { IsOf board.now caller.new }
     ensures loader { IsLoader caller.new }
@@ -133,10 +145,11 @@ pub(crate) fn find_code(
         if let Some(index) = find_in_page(board, caller, at, depth, rank, target) {
             return Ok(Slot { stop: at, index });
         }
-        at = match next_inner(board, caller, at, depth, rank, target) {
-            Ok(next) => next,
+        match next_inner(board, caller, at, depth, rank, target) {
+            Ok(NextPage::There(next)) => at = next,
+            Ok(NextPage::Made(stop)) => return Ok(Slot { stop, index: 0 }),
             Err(_) => return Err(InsertError::NoPage),
-        };
+        }
     }
     match find_in_page(board, caller, at, depth, chain - 1, target) {
         Some(index) => Ok(Slot { stop: at, index }),

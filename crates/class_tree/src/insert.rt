@@ -7,6 +7,8 @@ ghost use Rattle.board_core.specs.Loaded.{IsPage};
 ghost use Rattle.board_core.specs.Rows.{entry_word, IsOwnRow};
 ghost use Rattle.board_core.specs.ChainRule.{HasWalked};
 ghost use Rattle.board_core.specs.After.{after_answer};
+ghost use Rattle.board_core.specs.CountRule.{most_linked};
+ghost use Rattle.board_core.specs.Steps.{MayLink};
 ghost use Rattle.board.specs.Seated.{IsOf, IsLoader, with_account};
 ghost use Rattle.class_tree.specs.declared.insert.InsertError.TheVariants.{ChainFull};
 ghost use Rattle.class_tree.specs.Inserting.{IsStocked, HasBegun, HasPlaced, IsRefusal};
@@ -61,6 +63,7 @@ fn begin(board: &Board, caller: &mut Caller, row: Row) -> Target
     ensures begun { Begins board.now.shape caller.old caller.new row }
     ensures target { IsTarget board.now.shape caller.new.account result }
     ensures row { result.row ≡ row }
+    ensures few { MayLink caller.new.account most_linked }
 {
     let (block, atom) = (row.block, row.atom);
     let head = load_own_head(board, caller, block);
@@ -97,6 +100,7 @@ fn descend(
     requires stocked { IsStocked caller.old }
     requires down { IsDown board.now.shape caller.old.account first 0 target.now }
     requires number { first.number ≡ 0 }
+    requires few { MayLink caller.old.account most_linked }
     ensures of { IsOf board.now caller.new }
     ensures loader { IsLoader caller.new }
     ensures stocked { IsStocked caller.new }

@@ -2,6 +2,7 @@
 ghost use Rattle.std.specs.Prelude.{◌≡◌, ◌≢◌, ℕ, ◌+◌, ◌*◌, ◌<◌, ◌≤◌, ◌^◌, MatchResult, MatchBool};
 ghost use Rattle.board.specs.Seated.{IsOf, IsLoader, with_account};
 ghost use Rattle.board_core.specs.After.{after_slot, after_entry};
+ghost use Rattle.board_core.specs.Steps.{MayLink};
 ghost use Rattle.class_tree.specs.Inserting.{IsStocked};
 ghost use Rattle.class_tree.specs.Walking.{IsAtLeaf, Reads, Places, EntersRow};
 ghost use Rattle.class_tree.specs.Linking.{GoesBehind};
@@ -78,6 +79,7 @@ fn next_leaf(
     requires loader { IsLoader caller.old }
     requires stocked { IsStocked caller.old }
     requires leaf { IsAtLeaf board.now.shape caller.old.account at 5 rank 14 target.now }
+    requires few { MayLink caller.old.account 1 }
     requires rank { (rank + 1 < board.now.shape.chain) × (rank + 1 < 2 ^ 16) }
     requires number { at.number < 2 ^ 32 }
     ensures of { IsOf board.now caller.new }
@@ -116,6 +118,7 @@ pub(crate) fn fill_chain(
     requires loader { IsLoader caller.old }
     requires stocked { IsStocked caller.old }
     requires leaf { IsAtLeaf board.now.shape caller.old.account first 5 0 0 target.now }
+    requires few { MayLink caller.old.account 1 }
     requires number { first.number ≤ 65537 * 5 }
     ensures of { IsOf board.now caller.new }
     ensures loader { IsLoader caller.new }

@@ -1,6 +1,7 @@
 // What hangs at a link.
 ghost use Rattle.std.specs.Prelude.{◌≡◌, ◌≢◌, ℕ, ◌+◌, ◌*◌, ◌<◌, ◌≤◌, ◌^◌, MatchResult};
 ghost use Rattle.board.specs.Seated.{IsOf, IsLoader};
+ghost use Rattle.board_core.specs.Steps.{MayLink};
 ghost use Rattle.class_tree.specs.Inserting.{IsStocked};
 ghost use Rattle.class_tree.specs.Walking.{HasCode};
 ghost use Rattle.class_tree.specs.Linking.{GoesBelow, GoesOn, FollowsTo, IsBehind};
@@ -32,6 +33,7 @@ fn reach(
     requires loader { IsLoader caller.old }
     requires stocked { IsStocked caller.old }
     requires code { HasCode board.now.shape caller.old.account slot depth target.now }
+    requires few { MayLink caller.old.account 1 }
     requires number { slot.stop.number < 2 ^ 32 }
     ensures of { IsOf board.now caller.new }
     ensures loader { IsLoader caller.new }
@@ -75,6 +77,8 @@ fn enter_child(
     requires loader { IsLoader caller.old }
     requires stocked { IsStocked caller.old }
     requires behind { IsBehind board.now.shape caller.old.account slot at depth target.now }
+    requires leaf { MayLink caller.old.account 1 }
+    requires split { depth < 4 → MayLink caller.old.account 16 }
     requires number { at.number ≤ 65537 * (depth + 1) }
     ensures of { IsOf board.now caller.new }
     ensures loader { IsLoader caller.new }
@@ -112,6 +116,8 @@ pub(crate) fn follow(
     requires loader { IsLoader caller.old }
     requires stocked { IsStocked caller.old }
     requires code { HasCode board.now.shape caller.old.account slot depth target.now }
+    requires leaf { MayLink caller.old.account 1 }
+    requires split { depth < 4 → MayLink caller.old.account 16 }
     requires number { slot.stop.number < 65537 * depth + 65536 }
     ensures of { IsOf board.now caller.new }
     ensures loader { IsLoader caller.new }

@@ -1,7 +1,7 @@
 // The split of a full leaf.
 ghost use Rattle.std.specs.Prelude.{◌≡◌, ◌≢◌, ℕ, ◌+◌, ◌<◌, ◌≤◌, ◌^◌, IfOk, IfErr, MatchResult, take, slice_index};
 ghost use Rattle.board.specs.Seated.{IsOf, IsLoader};
-ghost use Rattle.board_core.specs.Steps.{MayExchangeLeaf};
+ghost use Rattle.board_core.specs.Steps.{MayExchangeLeaf, MayLink};
 ghost use Rattle.class_tree.specs.Inserting.{IsStocked};
 ghost use Rattle.class_tree.specs.Linking.{IsBehindFull, ComesIn};
 ghost use Rattle.class_tree.specs.Refusing.{LacksPages};
@@ -29,6 +29,7 @@ fn make_pages(
     requires loader { IsLoader caller.old }
     requires stocked { IsStocked caller.old }
     requires leaf { IsBehindFull board.now.shape caller.old.account slot at depth target.now }
+    requires few { MayLink caller.old.account 16 }
     ensures of { IsOf board.now caller.new }
     ensures loader { IsLoader caller.new }
     ensures made { IfOk result (λ need. IsMade board.now.shape caller.old caller.new slot at depth target.now pages.new need) }
@@ -60,6 +61,7 @@ pub(crate) fn split_leaf(
     requires loader { IsLoader caller.old }
     requires stocked { IsStocked caller.old }
     requires leaf { IsBehindFull board.now.shape caller.old.account slot at depth target.now }
+    requires few { MayLink caller.old.account 16 }
     requires number { at.number < 2 ^ 32 }
     ensures of { IsOf board.now caller.new }
     ensures loader { IsLoader caller.new }

@@ -1,5 +1,5 @@
 -- A page is given, or none was found.
-use Rattle.std.proofs.Common.{◌≡◌, ◌≢◌, ℕ, ◌+◌, inl, inr, List, [], ◌∷◌, ◌++◌, refl, sym, ap, ◌∙◌, subst, arith}
+use Rattle.std.proofs.Common.{◌≡◌, ◌≢◌, ℕ, suc, ◌+◌, inl, inr, List, [], ◌∷◌, ◌++◌, refl, sym, ap, ◌∙◌, subst, arith, length, length-append}
 use Rattle.std.specs.Prelude.{Option, Some, None, IfNone, IfSome}
 use mathlib.Core.Option.{some-ne-none}
 use lib.ListN.{get_elem?}
@@ -14,7 +14,7 @@ use Rattle.board_core.specs.declared.account.Who.{Who}
 use Rattle.board_core.specs.declared.account.Who.TheVariants.{Loader}
 use Rattle.board.specs.Seated.{Place, IsOf, IsLoader, number_in, Seated, with_account, with_stock, with_next}
 use Rattle.page_pool.specs.Taking.{page_before, AreRound, HasScanned, HasLooked, HasTaken, HasFound, IsRefused, IsGiven}
-use Rattle.page_pool.proofs.Passing.{scanned_stock, scanned_next, scanned_own, scanned_of, scanned_who}
+use Rattle.page_pool.proofs.Passing.{scanned_stock, scanned_next, scanned_own, scanned_counts, scanned_of, scanned_who}
 use Rattle.page_pool.proofs.Looks.{looked_of}
 
 pub if_none : (r : Option ℕ) (A B : Type 0) → (A → B) → IfNone r A → IfNone r B
@@ -47,6 +47,9 @@ given_kept k c d page t = record {
   own = subst (λ (x : Seated). HasOwn x.account page) (sym t.0) t.3;
   others = λ q _. ap (λ (x : Seated). owns q x.account.pool.own) t.0;
   apart = t.4;
+  more = let own : length d.account.pool.own ≡ length c.account.pool.own = ap (λ (x : Seated). length x.account.pool.own) t.0 in
+      let kept : length c.stock ≡ length d.stock + 1 = ap length t.1 ∙ length-append d.stock (page ∷ []) in omega arith;
+  linked = ap (λ (x : Seated). x.account.counts) t.0;
   from = inl (t.0, t.1);
 }
 
@@ -72,6 +75,11 @@ given_found k c m d page same none_kept found_there =
     let f : HasFound k c d page = subst (λ (x : Seated). HasFound k x d page) same found_there in record {
       own = found_own k c d page f;
       others = found_others k c d page f;
+      more = let own : length d.account.pool.own ≡ suc (length f.middle.account.pool.own) = ap (λ (x : Seated). length x.account.pool.own) f.after ∙ ap (λ (x : Seated). length x.account.pool.own) f.taken.after in
+          let before : length f.middle.account.pool.own ≡ length c.account.pool.own = ap length (scanned_own k c f.middle f.scanned) in
+          let none : length c.stock ≡ 0 = ap length none_kept in
+          let same : length d.stock ≡ length c.stock = ap length (found_stock k c d page f) in omega arith;
+      linked = ap (λ (x : Seated). x.account.counts) f.after ∙ (ap (λ (x : Seated). x.account.counts) f.taken.after ∙ scanned_counts k c f.middle f.scanned);
       apart = λ t. some-ne-none page (sym t.1 ∙ ap (λ (l : List ℕ). get_elem? l t.0) (found_stock k c d page f ∙ none_kept));
       from = inr (none_kept, f);
     }

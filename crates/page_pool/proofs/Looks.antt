@@ -19,20 +19,22 @@ use Rattle.board_core.proofs.Lists.{each_none, each_cons, at_longer, at_last}
 use Rattle.board.specs.Seated.{Place, Seated, IsOf, IsLoader, IsLost, with_account, number_of}
 use Rattle.page_pool.specs.Taking.{AreBetween, AreRound, with_looks, WasLoaded, WasLost, WasBusy, HasLooked, HasTaken}
 use Rattle.board_core.specs.ChainRule.{IsToldChain}
+use Rattle.board_core.specs.CountRule.{most_own}
 
 abbrev loaded : ℕ → ℕ → StateLoad
 loaded page word = record { page = page; word = word }
 
 -- ---- one page
 
-pub may_take : (k : Shape) (c d : Seated) (page state low : ℕ) → d ≡ with_account c (after_state c.account page state) → IsLoader c → IsPage k page → c.account.pool.low ≡ low → k.loaders + k.searchers ≤ c.account.pool.passed → state ≢ 1 → state ≤ low → MayTakePage k d.account (number_of d) page state
-may_take k c d page state low is loader inside_page least all other below = subst (λ (x : Seated). MayTakePage k x.account (number_of x) page state) (sym is) record {
+pub may_take : (k : Shape) (c d : Seated) (page state low : ℕ) → d ≡ with_account c (after_state c.account page state) → IsLoader c → IsPage k page → c.account.pool.low ≡ low → k.loaders + k.searchers ≤ c.account.pool.passed → length c.account.pool.own < most_own → state ≢ 1 → state ≤ low → MayTakePage k d.account (number_of d) page state
+may_take k c d page state low is loader inside_page least all few other below = subst (λ (x : Seated). MayTakePage k x.account (number_of x) page state) (sym is) record {
   who = loader;
   inside = inside_page;
   other = other;
   seen = (length c.account.loads.states, loaded page state, at_last c.account.loads.states (loaded page state) (length c.account.loads.states) refl, refl, refl);
   below = λ _. omega arith;
   scanned = λ _. all;
+  few = few;
 }
 
 -- ---- the order of loads

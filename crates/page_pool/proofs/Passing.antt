@@ -159,5 +159,15 @@ passed_own a (n ∷ ns) = passed_own (after_pass a n) ns
 pub scanned_own : (k : Shape) (c d : Seated) → HasScanned k c d → d.account.pool.own ≡ c.account.pool.own
 scanned_own k c d s = ap (λ (x : Seated). x.account.pool.own) s.passed.after ∙ (passed_own s.middle.account s.passed.announced ∙ ap (λ (x : Seated). x.account.pool.own) (risen_is c s.middle s.epoch s.risen))
 
+passed_counts : (a : Account) (ns : List ℕ) → (all_passed a ns).counts ≡ a.counts
+passed_counts a [] = refl
+passed_counts a (n ∷ ns) = passed_counts (after_pass a n) ns
+
+pub scanned_counts : (k : Shape) (c d : Seated) → HasScanned k c d → d.account.counts ≡ c.account.counts
+scanned_counts k c d s = ap (λ (x : Seated). x.account.counts) s.passed.after ∙ (passed_counts s.middle.account s.passed.announced ∙ ap (λ (x : Seated). x.account.counts) (risen_is c s.middle s.epoch s.risen))
+
+pub scanned_few : (k : Shape) (n : ℕ) (c d : Seated) → HasScanned k c d → length c.account.pool.own < n → length d.account.pool.own < n
+scanned_few k n c d s few = let same : length d.account.pool.own ≡ length c.account.pool.own = ap length (scanned_own k c d s) in omega arith
+
 pub scanned_next : (k : Shape) (c d : Seated) → HasScanned k c d → d.next ≡ c.next
 scanned_next k c d s = ap (λ (x : Seated). x.next) s.passed.after ∙ ap (λ (x : Seated). x.next) (risen_is c s.middle s.epoch s.risen)

@@ -154,9 +154,12 @@ pub record IsRefused (k : Shape) (c d : Seated) : Type 0 where
   pub own : d.account.pool.own ≡ c.account.pool.own
   pub stock : d.stock ≡ c.stock
 
--- a page that the caller kept, or one that it has found. It doesn't keep it, and its other own pages are as they were
+-- a page that the caller kept, or one that it has found. It doesn't keep it, and its other own pages are as they were. So it has one
+-- more that it doesn't keep, and it has linked none
 pub record IsGiven (k : Shape) (c d : Seated) (page : ℕ) : Type 0 where
   pub own : HasOwn d.account page
   pub others : (q : ℕ) → q ≢ page → owns q d.account.pool.own ≡ owns q c.account.pool.own
   pub apart : ¬ (IsAmong d.stock page)
+  pub more : length d.account.pool.own + length c.stock ≡ length c.account.pool.own + length d.stock + 1
+  pub linked : d.account.counts ≡ c.account.counts
   pub from : ((d ≡ with_stock c d.stock) × (c.stock ≡ d.stock ++ page ∷ [])) ⊎ ((c.stock ≡ []) × HasFound k c d page)

@@ -8,7 +8,7 @@ mod retires;
 mod scans;
 mod takes;
 
-pub use law::law_of_holding;
+pub use law::{law_of_counts, law_of_holding};
 pub use pins::{pin, unpin};
 pub use retires::retire;
 pub use takes::{NoPage, keep, take};

@@ -1,5 +1,6 @@
 // The announcements of all callers are loaded, and then the states of pages.
-ghost use Rattle.std.specs.Prelude.{◌≡◌, ◌+◌, ◌<◌, ◌≤◌, IfSome, IfNone, MatchBool};
+ghost use Rattle.std.specs.Prelude.{◌≡◌, ◌+◌, ◌<◌, ◌≤◌, IfSome, IfNone, MatchBool, length};
+ghost use Rattle.board_core.specs.CountRule.{most_own};
 ghost use Rattle.board_core.specs.EpochRule.{last_epoch};
 ghost use Rattle.board_core.specs.Loaded.{IsPage, HasEpoch};
 ghost use Rattle.board_core.specs.After.{lower};
@@ -75,6 +76,7 @@ pub(crate) fn scan_callers(board: &Board, caller: &mut Caller) -> u64
 fn try_page(board: &Board, caller: &mut Caller, page: u32, low: u64) -> bool
     requires fits { IsOf board.now caller.old }
     requires loader { IsLoader caller.old }
+    requires few { length caller.old.account.pool.own < most_own }
     requires page { IsPage board.now.shape page }
     requires low { caller.old.account.pool.low ≡ low }
     requires scanned { board.now.shape.loaders + board.now.shape.searchers ≤ caller.old.account.pool.passed }
@@ -91,6 +93,7 @@ fn try_page(board: &Board, caller: &mut Caller, page: u32, low: u64) -> bool
 fn look_from(board: &Board, caller: &mut Caller, from: u32, until: u32, low: u64) -> Option<u32>
     requires fits { IsOf board.now caller.old }
     requires loader { IsLoader caller.old }
+    requires few { length caller.old.account.pool.own < most_own }
     requires range { (0 < from) × (from ≤ until) × (until ≤ board.now.shape.pages + 1) }
     requires low { caller.old.account.pool.low ≡ low }
     requires scanned { board.now.shape.loaders + board.now.shape.searchers ≤ caller.old.account.pool.passed }
@@ -109,6 +112,7 @@ fn look_from(board: &Board, caller: &mut Caller, from: u32, until: u32, low: u64
 pub(crate) fn look_round(board: &Board, caller: &mut Caller, next: u32, low: u64) -> Option<u32>
     requires fits { IsOf board.now caller.old }
     requires loader { IsLoader caller.old }
+    requires few { length caller.old.account.pool.own < most_own }
     requires next { IsPage board.now.shape next }
     requires low { caller.old.account.pool.low ≡ low }
     requires scanned { board.now.shape.loaders + board.now.shape.searchers ≤ caller.old.account.pool.passed }

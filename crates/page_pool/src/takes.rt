@@ -1,5 +1,6 @@
 // A page is taken for the caller's own, or kept for later.
 ghost use Rattle.std.specs.Prelude.{◌≡◌, ◌<◌, ◌≤◌, ◌++◌, [], ◌∷◌, IfOk, IfErr, IfSome, IfNone, length};
+ghost use Rattle.board_core.specs.CountRule.{most_own};
 ghost use Rattle.board_core.specs.Loaded.{IsPage, HasOwn};
 ghost use Rattle.board_core.specs.MarkRule.{IsAmong};
 ghost use Rattle.board.specs.Seated.{IsOf, IsLoader, with_stock};
@@ -36,6 +37,7 @@ fn end_of_round(shape: Shape, page: u32) -> u32
 fn find_page(board: &Board, caller: &mut Caller) -> Option<u32>
     requires fits { IsOf board.now caller.old }
     requires loader { IsLoader caller.old }
+    requires few { length caller.old.account.pool.own < most_own }
     ensures some { IfSome result (λ page. IsPage board.now.shape page × HasFound board.now.shape caller.old caller.new page) }
     ensures none { IfNone result (IsRefused board.now.shape caller.old caller.new) }
 {
@@ -58,6 +60,7 @@ fn find_page(board: &Board, caller: &mut Caller) -> Option<u32>
 pub fn take(board: &Board, caller: &mut Caller) -> Result<u32, NoPage>
     requires fits { IsOf board.now caller.old }
     requires loader { IsLoader caller.old }
+    requires few { length caller.old.account.pool.own < most_own }
     ensures of { IsOf board.now caller.new }
     ensures loader { IsLoader caller.new }
     ensures ok { IfOk result (λ page. IsPage board.now.shape page × IsGiven board.now.shape caller.old caller.new page) }

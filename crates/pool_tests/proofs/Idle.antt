@@ -1,5 +1,5 @@
 -- Callers that are not pinned, and keep no page: those of a board that was just opened, and what calls of the pool leave of them.
-use Rattle.std.proofs.Common.{◌≡◌, ℕ, suc, ◌+◌, ◌<◌, true, List, [], ◌∷◌, length, get_or, true≢false, refl, sym, ap, subst, arith}
+use Rattle.std.proofs.Common.{◌≡◌, ℕ, suc, ◌+◌, ◌<◌, true, List, [], ◌∷◌, length, get_or, true≢false, refl, sym, ap, subst, arith, ◌≤◌}
 use Rattle.std.specs.Prelude.{remove}
 use Rattle.std.specs.List.{All}
 use Rattle.std.proofs.lemmas.List.Elements.{All-nil, All-cons, All-head, All-tail}
@@ -15,7 +15,7 @@ use Rattle.pool_tests.specs.Ready.{IsIdle, IsResting, IsReady}
 -- ---- a board that was just opened
 
 new_idle : (b : Place) (n : ℕ) (c : Seated) → IsNew b n c → IsIdle b c
-new_idle b n c new = record { of = new.of; unpinned = ap (λ (a : Account). a.pool.announced) new.account; bare = new.stock }
+new_idle b n c new = record { of = new.of; unpinned = ap (λ (a : Account). a.pool.announced) new.account; own = ap (λ (a : Account). a.pool.own) new.account; bare = new.stock }
 
 idle_from : (b : Place) (n : ℕ) (cs : List Seated) → ((i : ℕ) (c : Seated) → get_elem? cs i ≡ some c → IsNew b (n + i) c) → All (IsIdle b) cs
 idle_from b n [] new = All-nil (IsIdle b)
@@ -26,7 +26,7 @@ pub new_callers : (b : Place) (cs : List Seated) → AreNew b cs → All (IsIdle
 new_callers b cs new = idle_from b 0 cs (λ i c there. subst (λ (m : ℕ). IsNew b m c) (let e : i ≡ 0 + i = omega arith in e) (new i c there))
 
 idle_rests : (b : Place) (c : Seated) → IsIdle b c → IsResting b c
-idle_rests b c i = record { of = i.of; unpinned = i.unpinned; few = let none : length c.stock ≡ 0 = ap length i.bare in omega arith }
+idle_rests b c i = record { of = i.of; unpinned = i.unpinned; own = (let none : length c.account.pool.own ≡ 0 = ap length i.own in omega arith); few = let none : length c.stock ≡ 0 = ap length i.bare in omega arith }
 
 pub all_resting : (b : Place) (cs : List Seated) → All (IsIdle b) cs → All (IsResting b) cs
 all_resting b [] all = All-nil (IsResting b)
@@ -52,5 +52,5 @@ loader_who Gone e = absurd (true≢false (sym e))
 pub loader_is : (c : Seated) → is_loader c.account.who ≡ true → IsLoader c
 loader_is c e = loader_who c.account.who e
 
-pub idle_ready : (b : Place) (c : Seated) → IsIdle b c → is_loader c.account.who ≡ true → IsReady b c
-idle_ready b c i e = record { of = i.of; loader = loader_is c e; bare = i.bare }
+pub idle_ready : (b : Place) (c : Seated) → IsIdle b c → is_loader c.account.who ≡ true → IsReady b c 0
+idle_ready b c i e = record { of = i.of; loader = loader_is c e; own = (let none : length c.account.pool.own ≡ 0 = ap length i.own in omega arith); bare = i.bare }

@@ -45,3 +45,14 @@ given_few k c d page g few = ⊎_elim
     (λ (t : (d ≡ with_stock c d.stock) × (c.stock ≡ d.stock ++ page ∷ [])). let long : length c.stock ≡ length d.stock + 1 = ap length t.1 ∙ length-append d.stock (page ∷ []) in omega arith)
     (λ (t : (c.stock ≡ []) × HasFound k c d page). let none : length d.stock ≡ 0 = ap length (found_stock k c d page t.1 ∙ t.0) in none)
     g.from
+
+-- how many pages it has then
+given_own : (k : Shape) (c d : Seated) (page n : ℕ) → IsGiven k c d page → length c.account.pool.own ≤ n → length d.account.pool.own ≤ n + 1
+given_own k c d page n g few = ⊎_elim
+    (λ (t : (d ≡ with_stock c d.stock) × (c.stock ≡ d.stock ++ page ∷ [])). let same = ap (λ (x : Seated). length x.account.pool.own) t.0 in omega arith)
+    (λ (t : (c.stock ≡ []) × HasFound k c d page). let more = g.more in let same = ap length (found_stock k c d page t.1) in omega arith)
+    g.from
+
+pub taken_own : (k : Shape) (c d : Seated) (r : Result ℕ NoPage) (n : ℕ) → IfOk r (λ page. IsPage k page × IsGiven k c d page) → IfErr r (λ _. (c.stock ≡ []) × IsRefused k c d) → length c.account.pool.own ≤ n → length d.account.pool.own ≤ n + 1
+taken_own k c d (Ok page) n ok err few = given_own k c d page n ok.1 few
+taken_own k c d (Err e) n ok err few = let same : length d.account.pool.own ≡ length c.account.pool.own = ap length err.1.own in omega arith

@@ -1,5 +1,5 @@
 // Eight callers take, hold, keep, pin and unpin beside each other. A table tells which pages are in somebody's hand.
-ghost use Rattle.std.specs.Prelude.{◌≡◌, ◌≤◌};
+ghost use Rattle.std.specs.Prelude.{◌≡◌, ◌≤◌, length};
 ghost use Rattle.std.specs.List.{All};
 ghost use Rattle.board.specs.Seated.{IsOf, IsLoader};
 ghost use Rattle.pool_tests.specs.Ready.{IsResting};
@@ -12,7 +12,7 @@ use std::sync::atomic::{AtomicBool, Ordering};
 use std::test::Fail;
 use std::thread::{Threads, for_each_mut, yield_now};
 
-const PAGES: u32 = 64;
+const PAGES: u32 = 32;
 
 const TURNS: u32 = 10_000;
 
@@ -121,6 +121,7 @@ fn run<R: Threads + Sync>(
 fn given(board: &Board, caller: &mut Caller, hands: &[AtomicBool]) -> u32
     requires of { IsOf board.now caller.old }
     requires loader { IsLoader caller.old }
+    requires few { length caller.old.account.pool.own ≤ 1 }
 {
     for count in 0..PAGES {
         match take(board, caller) {

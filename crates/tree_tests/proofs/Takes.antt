@@ -1,5 +1,5 @@
 -- A caller at rest stays so where it takes a page.
-use Rattle.std.proofs.Common.{◌≡◌, ℕ, List, [], ◌∷◌, ◌++◌, refl, ap, ◌∙◌, ⊎_elim}
+use Rattle.std.proofs.Common.{◌≡◌, ℕ, List, [], ◌∷◌, ◌++◌, refl, ap, ◌∙◌, ⊎_elim, ◌+◌, ◌<◌, ◌≤◌, length, length-append, arith}
 use Rattle.std.specs.Prelude.{Result, Ok, Err, IfOk, IfErr}
 use Rattle.htss_defs.specs.declared.shape.Shape.{Shape}
 use Rattle.board_core.specs.declared.account.Account.{Account}
@@ -10,6 +10,10 @@ use Rattle.board.specs.Seated.{Place, Seated, IsOf, IsAtRest, with_stock}
 use Rattle.page_pool.specs.Taking.{all_passed, HasScanned, HasFound, IsGiven, IsRefused}
 use Rattle.page_pool.specs.declared.takes.NoPage.{NoPage}
 use Rattle.page_pool.proofs.Passing.{risen_is}
+use Rattle.page_pool.proofs.Giving.{found_stock}
+use Rattle.board_core.specs.CountRule.{most_own}
+use Rattle.class_tree.specs.Inserting.{IsStocked}
+use Rattle.tree_tests.specs.Ready.{WasGiven}
 
 -- what a caller at rest has of the lock, and what it has announced
 abbrev Resting : Type 0
@@ -50,3 +54,21 @@ take_rests k b c d r ok err of rest = let same = taken_rest k c d r ok err in re
   free = ap (λ (x : Resting). x.0) same ∙ rest.free;
   unpinned = ap (λ (x : Resting). x.1) same ∙ rest.unpinned;
 }
+
+-- ---- how many it was given
+
+pub few_given : (c : Seated) (count : ℕ) → WasGiven c count → count < 32 → length c.account.pool.own < most_own
+few_given c count g less = let own = g.own in let most = g.most in omega arith
+
+given_most : (k : Shape) (c d : Seated) (page count : ℕ) → IsGiven k c d page → count < 32 → length c.stock + count ≤ 32 → length d.stock + (count + 1) ≤ 32
+given_most k c d page count g less most = ⊎_elim
+    (λ (t : (d ≡ with_stock c d.stock) × (c.stock ≡ d.stock ++ page ∷ [])). let one = ap length t.1 ∙ length-append d.stock (page ∷ []) in omega arith)
+    (λ (t : (c.stock ≡ []) × HasFound k c d page). let none = ap length (found_stock k c d page t.1 ∙ t.0) in omega arith)
+    g.from
+
+pub take_given : (k : Shape) (c d : Seated) (r : Result ℕ NoPage) (count : ℕ) → IfOk r (λ page. IsPage k page × IsGiven k c d page) → count < 32 → WasGiven c count → IfOk r (λ _. WasGiven d (count + 1))
+take_given k c d (Ok page) count ok less g = let more = ok.1.more in let own = g.own in record { own = omega arith; most = given_most k c d page count ok.1 less g.most }
+take_given k c d (Err e) count ok less g = tt
+
+pub stocked_given : (c : Seated) → IsStocked c → WasGiven c 0
+stocked_given c s = let few = s.few in let size = s.size in record { own = omega arith; most = omega arith }

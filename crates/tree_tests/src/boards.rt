@@ -1,8 +1,8 @@
 // Boards that are opened with a list for each loader, and closed.
-ghost use Rattle.std.specs.Prelude.{◌≡◌, ◌+◌, ◌<◌, length, IfOk};
+ghost use Rattle.std.specs.Prelude.{◌≡◌, ◌+◌, ◌<◌, length, IfOk, IsTrue};
 ghost use Rattle.std.specs.List.{All};
 ghost use Rattle.board.specs.Seated.{IsAtRest, IsLoader};
-ghost use Rattle.tree_tests.specs.Ready.{IsLoading, IsResting};
+ghost use Rattle.tree_tests.specs.Ready.{IsLoading, IsResting, WasGiven};
 
 use crate::loads::{Loading, Try};
 use board::{Board, Caller, Final, gather, open_board};
@@ -79,24 +79,30 @@ pub(crate) fn open(alloc: Global, shape: Shape) -> Result<(Board, Crowd), Fail>
     Ok((board, crowd))
 }
 
-// A page, for a loader at rest.
-fn take_at_rest(board: &Board, caller: &mut Caller) -> Result<u32, NoPage>
+// A page, for a loader at rest that was given so many.
+fn take_at_rest(board: &Board, caller: &mut Caller, _count: u32) -> Result<u32, NoPage>
     requires rest { IsAtRest board.now caller.old }
     requires loader { IsLoader caller.old }
+    requires given { WasGiven caller.old _count }
+    requires few { _count < 32 }
     ensures rest { IsAtRest board.now caller.new }
     ensures loader { IsLoader caller.new }
+    ensures given { IfOk result (λ _. WasGiven caller.new (_count + 1)) }
 {
     take(board, caller)
 }
 
 // Takes one page more, where the pool has one.
-fn take_one(board: &Board, loading: &mut Loading) -> Result<bool, Fail>
+fn take_one(board: &Board, loading: &mut Loading, count: u32) -> Result<bool, Fail>
     requires rest { IsAtRest board.now loading.old.caller }
     requires loader { IsLoader loading.old.caller }
+    requires given { WasGiven loading.old.caller count }
+    requires few { count < 32 }
     ensures rest { IsAtRest board.now loading.new.caller }
     ensures loader { IsLoader loading.new.caller }
+    ensures given { IfOk result (λ more. IsTrue more → WasGiven loading.new.caller (count + 1)) }
 {
-    match take_at_rest(board, &mut loading.caller) {
+    match take_at_rest(board, &mut loading.caller, count) {
         Ok(page) => {
             loading.taken.push(page)?;
             Ok(true)
@@ -105,16 +111,17 @@ fn take_one(board: &Board, loading: &mut Loading) -> Result<bool, Fail>
     }
 }
 
-// Takes all pages that there are: those that the loader keeps, and those that the pool has.
+// Takes 32 pages, or as many as there are: those that the loader keeps, and those that the pool has.
 pub(crate) fn take_all(board: &Board, loading: &mut Loading) -> Result<(), Fail>
     requires rest { IsAtRest board.now loading.old.caller }
     requires loader { IsLoader loading.old.caller }
+    requires given { WasGiven loading.old.caller 0 }
     ensures rest { IsAtRest board.now loading.new.caller }
     ensures loader { IsLoader loading.new.caller }
 {
-    for _ in 0..board.shape().pages {
-        if !take_one(board, loading)? {
-            break;
+    for count in 0..32 {
+        if !take_one(board, loading, count)? {
+            return Ok(());
         }
     }
     Ok(())
@@ -128,7 +135,7 @@ pub(crate) struct Done {
     pub(crate) failed: bool,
 }
 
-// The caller of one loader goes to the others, and what it has done is told. Before that it takes all pages that it is given, if it should.
+// The caller of one loader goes to the others, and what it has done is told. Before that it takes what pages it is given, if it should.
 fn end_one(
     board: &Board,
     takes: bool,
@@ -178,7 +185,7 @@ fn end_all(
     Ok(())
 }
 
-// Each loader takes all pages that it is given, if they should, and the board is closed. Answers what each loader has done.
+// Each loader takes what pages it is given, if they should, and the board is closed. Answers what each loader has done.
 pub(crate) fn close(
     alloc: Global,
     board: Board,

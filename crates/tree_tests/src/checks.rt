@@ -189,9 +189,11 @@ pub(crate) fn check_rows(
     Ok(tally)
 }
 
-// After all loaders have taken what they could, each page is either of the tree or was taken by one of them, once.
+// After each loader has taken what it could, each page is either of the tree or was taken by one of them, once, or no loader's. The last
+// comes only where each loader was given 32, as many as it may have, and then the page is not busy.
 pub(crate) fn check_pages(pages: &[Page], walk: &Walk, done: &[Done]) -> Result<(), Fail> {
-    for index in 0..pages.len() {
+    let all_sated = done.iter().all(|one| one.taken.len() == 32);
+    for (index, page) in pages.iter().enumerate() {
         let linked = walk.visited.get(index).ok_or("no such page")?;
         let number = index.saturating_add(1);
         let mut taken = 0usize;
@@ -206,6 +208,7 @@ pub(crate) fn check_pages(pages: &[Page], walk: &Walk, done: &[Done]) -> Result<
         match (*linked, taken) {
             (true, 0) | (false, 1) => {}
             (true, _) => return Err("a linked page that was taken".into()),
+            (false, 0) if all_sated && page.state != 1 => {}
             (false, 0) => return Err("a page that is given no more".into()),
             _ => return Err("a page that was taken twice".into()),
         }

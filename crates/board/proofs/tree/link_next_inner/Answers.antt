@@ -6,4 +6,4 @@ pub claim_of-requires-clause-may : goal.claim_of-requires-clause-may
 claim_of-requires-clause-may c = (c.requires.may, record { page_is = sym c.requires.page; place_is = refl; word_is = refl })
 
 pub claim_of-requires-clause-stock : goal.claim_of-requires-clause-stock
-claim_of-requires-clause-stock c = inner_kept c.args.caller.now.account c.args.number c.args.new c.args.caller.now.stock c.requires.free
+claim_of-requires-clause-stock c = inner_kept c.args.caller.now.account c.args.number c.args.new c.args.code c.args.caller.now.stock c.requires.free

@@ -1,7 +1,7 @@
 use Rattle.std.proofs.Common.{◌≡◌, ℕ, ap, ◌-◌, arith, subst}
 use Rattle.htss_defs.specs.declared.shape.Shape.{Shape}
 use Rattle.htss_defs.specs.declared.shape.Field.TheVariants.{Chain}
-use Rattle.class_tree.proofs.Searching.{along_first, along_next, along_read, along_found, along_full, reads_stocked, reads_loader, goes_of, lacks_one, chain_stops, seeking_walked, IsAlong}
+use Rattle.class_tree.proofs.Searching.{along_first, along_next, along_read, along_found, along_full, along_may, made_found, goes_there, goes_made, reads_stocked, reads_loader, goes_of, lacks_one, chain_stops, seeking_walked, IsAlong}
 use Rattle.class_tree.proofs.Pages.{reads_of}
 use Rattle.class_tree.proofs.find.find_code.Goals as goal
 
@@ -53,12 +53,21 @@ next_inner-requires-clause-number c =
 pub returns-in-Err-clause-found : goal.returns-in-Err-clause-found
 returns-in-Err-clause-found c = lacks_one _ 0 _ c.find_in_page.new.caller _ _ (along_read _ _ c.loop-rank.caller _ _ c.loop-rank.at _ _ _ c.loop-rank.invariant.along c.in_default.ensures.reads) c.in-Err.ensures.next
 
+pub next_inner-requires-clause-few : goal.next_inner-requires-clause-few
+next_inner-requires-clause-few c = along_may _ c.args.caller.now c.loop-rank.caller c.find_in_page.new.caller _ c.loop-rank.at _ _ _ c.loop-rank.invariant.along c.in_default.ensures.reads c.requires.few
+
 pub loop-rank-preserved : goal.loop-rank-preserved
-loop-rank-preserved c = record {
-  along = along_next _ _ c.loop-rank.caller c.find_in_page.new.caller _ _ c.loop-rank.at _ _ _ _ c.loop-rank.invariant.along c.in_default.ensures.reads c.in_default.ensures.found c.in-Ok.ensures.next;
-  stocked = c.in-Ok.ensures.stocked;
-  loader = c.in-Ok.ensures.loader;
-}
+loop-rank-preserved c =
+    let there = goes_there _ c.find_in_page.new.caller _ _ _ _ _ _ _ c.in-Ok-There.field-0-is c.in-Ok-There.ensures.next in record {
+      along = along_next _ _ c.loop-rank.caller c.find_in_page.new.caller _ _ c.loop-rank.at _ _ _ _ c.loop-rank.invariant.along c.in_default.ensures.reads c.in_default.ensures.found there.0 there.1;
+      stocked = c.in-Ok-There.ensures.stocked;
+      loader = c.in-Ok-There.ensures.loader;
+    }
+
+pub returns-in-Ok-Made-clause-found : goal.returns-in-Ok-Made-clause-found
+returns-in-Ok-Made-clause-found c =
+    let limit = c.shape-chain.ensures.limits Chain in let high = limit.1 in let same = ap (λ (k : Shape). k.chain) c.shape-chain.ensures.value in let less = c.loop-rank-test.true in
+    made_found _ _ c.loop-rank.caller c.find_in_page.new.caller _ _ c.loop-rank.at _ _ _ _ c.loop-rank.invariant.along c.in_default.ensures.reads (goes_made _ c.find_in_page.new.caller _ _ _ _ _ _ _ c.in-Ok-Made.field-0-is c.in-Ok-Made.ensures.next) c.requires.number (omega arith)
 
 pub overflow_sub-chain : goal.overflow_sub-chain
 overflow_sub-chain c = let limit = c.shape-chain.ensures.limits Chain in let low = limit.0 in let same = ap (λ (k : Shape). k.chain) c.shape-chain.ensures.value in omega arith

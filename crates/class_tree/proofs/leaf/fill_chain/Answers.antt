@@ -2,7 +2,7 @@ use Rattle.std.proofs.Common.{◌≡◌, ℕ, ap, ◌-◌, arith, subst}
 use Rattle.htss_defs.specs.declared.shape.Shape.{Shape}
 use Rattle.htss_defs.specs.declared.shape.Field.TheVariants.{Chain}
 use Rattle.class_tree.proofs.Searching.{reads_stocked, goes_of, lacks_one, chain_stops, full_stocked}
-use Rattle.class_tree.proofs.Leaves.{IsAlongLeaves, leaves_read, leaves_first, leaves_next, leaves_walked, leaves_full, some_next}
+use Rattle.class_tree.proofs.Leaves.{IsAlongLeaves, leaves_read, leaves_may, leaves_first, leaves_next, leaves_walked, leaves_full, some_next}
 use Rattle.class_tree.proofs.leaf.fill_chain.Goals as goal
 
 pub overflow_sub-rank-end : goal.overflow_sub-rank-end
@@ -19,6 +19,9 @@ fill_leaf-requires-clause-leaf c = c.loop-rank.invariant.along.leaf
 
 pub next_leaf-requires-clause-stocked : goal.next_leaf-requires-clause-stocked
 next_leaf-requires-clause-stocked c = reads_stocked _ c.loop-rank.caller _ c.if-fill_leaf.ensures.placed.0 c.loop-rank.invariant.stocked
+
+pub next_leaf-requires-clause-few : goal.next_leaf-requires-clause-few
+next_leaf-requires-clause-few c = leaves_may _ c.args.caller.now c.loop-rank.caller c.fill_leaf.new.caller _ c.loop-rank.at _ _ _ c.loop-rank.invariant.along c.if-fill_leaf.ensures.placed.0 c.requires.few
 
 pub next_leaf-requires-clause-rank : goal.next_leaf-requires-clause-rank
 next_leaf-requires-clause-rank c = let limit = c.shape-chain.ensures.limits Chain in let low = limit.0 in let high = limit.1 in let same = ap (λ (k : Shape). k.chain) c.shape-chain.ensures.value in let less = c.loop-rank-test.true in (omega arith, omega arith)

@@ -10,7 +10,7 @@ pub returns-then-word-ne0-clause-next : goal.returns-then-word-ne0-clause-next
 returns-then-word-ne0-clause-next c = leaf_read _ c.args.caller.now _ _ _ _ _ _ _ c.requires.leaf c.load_more-word.ensures.after c.if-word-ne0.true (c.load_more-word.ensures.page c.if-word-ne0.true) c.stop_at.ensures
 
 pub link_next_leaf-found-requires-clause-may : goal.link_next_leaf-found-requires-clause-may
-link_next_leaf-found-requires-clause-may c = may_link_leaf _ c.args.caller.now c.load_more-word.new.caller _ _ _ _ _ _ _ c.requires.leaf c.requires.rank.0 c.load_more-word.ensures.after c.if-word-ne0.false c.header_word-header.ensures c.in-Ok.ensures.ready
+link_next_leaf-found-requires-clause-may c = may_link_leaf _ c.args.caller.now c.load_more-word.new.caller _ _ _ _ _ _ _ c.requires.leaf c.requires.rank.0 c.load_more-word.ensures.after c.if-word-ne0.false c.header_word-header.ensures c.in-Ok.ensures.ready c.requires.few
 
 pub returns-then-found-eq0-clause-stocked : goal.returns-then-found-eq0-clause-stocked
 returns-then-found-eq0-clause-stocked c = linked_stocked _ c.load_more-word.new.caller c.make_page.new.caller _ _ _ _ _ c.in-Ok.ensures.ready (c.link_next_leaf-found.ensures.won c.if-found-eq0.true)

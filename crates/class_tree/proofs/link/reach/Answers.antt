@@ -11,7 +11,7 @@ pub returns-then-word-ne0-clause-led : goal.returns-then-word-ne0-clause-led
 returns-then-word-ne0-clause-led c = led_read _ c.args.caller.now _ _ _ _ _ _ c.requires.code c.load_link-word.ensures.after c.if-word-ne0.true (c.load_link-word.ensures.page c.if-word-ne0.true) c.stop_at.ensures
 
 pub link_leaf-found-requires-clause-may : goal.link_leaf-found-requires-clause-may
-link_leaf-found-requires-clause-may c = may_link _ c.args.caller.now c.load_link-word.new.caller _ _ _ _ _ _ _ c.requires.code c.load_link-word.ensures.after c.if-word-ne0.false c.header_word-header.ensures c.in-Ok.ensures.ready
+link_leaf-found-requires-clause-may c = may_link _ c.args.caller.now c.load_link-word.new.caller _ _ _ _ _ _ _ c.requires.code c.load_link-word.ensures.after c.if-word-ne0.false c.header_word-header.ensures c.in-Ok.ensures.ready c.requires.few
 
 pub returns-then-found-eq0-clause-stocked : goal.returns-then-found-eq0-clause-stocked
 returns-then-found-eq0-clause-stocked c = linked_stocked _ c.load_link-word.new.caller c.make_page.new.caller _ _ _ _ _ c.in-Ok.ensures.ready (c.link_leaf-found.ensures.won c.if-found-eq0.true)

@@ -14,4 +14,4 @@ fill-requires-clause-apart c = used_apart c.take_all.new.caller _ _ c.in-Ok.ensu
 
 pub returns-clause-made : goal.returns-clause-made
 returns-clause-made c = is_made _ c.args.caller.now c.load_nexts-nexts.new.caller c.take_all.new.caller _ _ _ _ c.group-groups.result.count _ _ _ c.load_nexts-nexts.result.rows c.load_nexts-nexts.result.codes _ _ (entry_of c.group-groups.result.entries) _
-    c.requires.leaf c.load_nexts-nexts.ensures.learns c.load_nexts-nexts.ensures.rows c.group-groups.ensures c.pages-need.ensures c.take_all.array_long c.in-Ok.ensures.taken c.fill.ensures.only c.fill.ensures.filled
+    c.requires.leaf c.load_nexts-nexts.ensures.learns c.load_nexts-nexts.ensures.rows c.group-groups.ensures c.pages-need.ensures c.take_all.array_long c.in-Ok.ensures.taken c.fill.ensures.only c.fill.ensures.filled c.requires.few

@@ -1,5 +1,5 @@
 use Rattle.std.proofs.Common.{arith, sym, ◌∙◌, length-set}
-use Rattle.class_tree.proofs.Takings.{none_more, all_refused, all_refused_reached, takes_more}
+use Rattle.class_tree.proofs.Takings.{none_more, all_refused, all_refused_reached, takes_more, few_taken}
 use Rattle.class_tree.proofs.taken.take_all.Goals as goal
 
 pub keep_all-requires-clause-taken : goal.keep_all-requires-clause-taken
@@ -18,3 +18,6 @@ loop-i-preserved c =
       size = length-set c.loop-i.pages c.loop-i.i c.in-Ok.page ∙ c.loop-i.invariant.size;
       takes = takes_more _ _ c.loop-i.caller _ _ _ _ c.loop-i.invariant.takes c.in-Ok.ensures.ok.1 c.in-Ok.ensures.ok.0 (sym c.in-Ok.ensures.of.shape) (omega arith) c.loop-i.invariant.size;
     }
+
+pub take-requires-clause-few : goal.take-requires-clause-few
+take-requires-clause-few c = few_taken _ _ _ c.loop-i.invariant.takes.taken

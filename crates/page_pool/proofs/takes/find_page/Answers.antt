@@ -3,11 +3,15 @@ use Rattle.htss_defs.specs.declared.shape.Shape.{Shape}
 use Rattle.page_pool.specs.Taking.{page_before}
 use Rattle.page_pool.proofs.Looks.{none_true}
 use Rattle.page_pool.proofs.Giving.{refused, found}
-use Rattle.page_pool.proofs.Passing.{scanned_loader, scanned_passed}
+use Rattle.page_pool.proofs.Passing.{scanned_loader, scanned_few, scanned_passed}
+use Rattle.board_core.specs.CountRule.{most_own}
 use Rattle.page_pool.proofs.takes.find_page.Goals as goal
 
 pub look_round-requires-clause-loader : goal.look_round-requires-clause-loader
 look_round-requires-clause-loader c = scanned_loader _ c.args.caller.now _ c.scan_callers-low.ensures.scanned c.requires.loader
+
+pub look_round-requires-clause-few : goal.look_round-requires-clause-few
+look_round-requires-clause-few c = scanned_few _ most_own c.args.caller.now _ c.scan_callers-low.ensures.scanned c.requires.few
 
 pub look_round-requires-clause-scanned : goal.look_round-requires-clause-scanned
 look_round-requires-clause-scanned c = let all = scanned_passed _ c.args.caller.now _ c.scan_callers-low.ensures.scanned in omega arith
