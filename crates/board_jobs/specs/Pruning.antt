@@ -1,4 +1,4 @@
--- What a searcher has loaded for each of its answers, told by how long its lists of loads were at each of them.
+-- What a searcher has loaded for each of its answers, told by how long its lists of loads were at each of them (this project's own).
 use Rattle.std.specs.Prelude.{◌≡◌, ℕ, zero, suc, ◌-◌, ◌≤◌, List, [], ◌∷◌, ◌++◌, length, map, take, drop}
 use mathlib.Core.Option.{some}
 use lib.ListN.{get_elem?}

@@ -316,7 +316,6 @@ run_is told script groups shape budget accounts text text_now last limits closed
       events = refl;
       shape_is = closed.shape_is;
       settled = closed.settled;
-      shown = closed.shown;
       count = ap length closed.accounts_are ∙ end.count;
       each = λ i a there.
           let at = subst (λ (l : List Account). get_elem? l i ≡ some a) closed.accounts_are there in

@@ -8,7 +8,7 @@ use Rattle.htss_defs.specs.declared.shape.Shape.{Shape}
 use Rattle.report_rules.specs.Reports.{Done, done_lines, log_line}
 use Rattle.board_core.specs.declared.account.Account.{Account}
 use Rattle.board_core.specs.Accounts.{caller_after}
-use Rattle.board.specs.Closed.{Closing, IsSettled, IsShown}
+use Rattle.board.specs.Closed.{Closing, IsSettled}
 use Rattle.board_jobs.specs.Ends.{caller_at}
 use Rattle.board_jobs.specs.Rooms.{HaveHadRoom}
 use Rattle.board_jobs.specs.Printed.{lines_by, printed}
@@ -26,8 +26,7 @@ pub record HasPrinted (shape : Shape) (done : List Done) (i : ℕ) (a : Account)
 
 -- the text is a run's; each record that took words of its loader's region had room there; the history of the report's rules is that of
 -- the board that was closed, and the text prints its log; and each caller's account, which is true of that history, of the room that it
--- has left and of the pages, has what the caller's lines print, and nothing else. The words of the closed board have what each caller has
--- loaded, and a walk over them finds each row of a published record. A searcher's account, which comes after those of the
+-- has left and of the pages, has what the caller's lines print, and nothing else. A searcher's account, which comes after those of the
 -- loaders, has loaded nothing past its last answer; what it has loaded for each search is pruned; and the rows that its lines print are
 -- those
 pub record IsRunOf (told : Option (List File)) (script : List ℕ) (shape : Shape) (budget : ℕ) (text : List ℕ) (last : Closing) : Type 0 where
@@ -37,7 +36,6 @@ pub record IsRunOf (told : Option (List File)) (script : List ℕ) (shape : Shap
   pub events : run.report.events ≡ map log_line last.history
   pub shape_is : last.shape ≡ shape
   pub settled : IsSettled last
-  pub shown : IsShown last
   pub count : length last.accounts ≡ shape.loaders + shape.searchers
   pub each : (i : ℕ) (a : Account) → get_elem? last.accounts i ≡ some a → HasPrinted shape run.is_report.told.done i a
   pub pruned : (i : ℕ) (a : Account) → shape.loaders ≤ i → get_elem? last.accounts i ≡ some a
