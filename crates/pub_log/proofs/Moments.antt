@@ -206,5 +206,11 @@ seats = record {
       some_gathered (GoesOn a) vs id other v w at apart there (same_views vs j u place i a here loader who);
 }
 
+later_again : (vs ws us : List View) → IsLater vs ws → IsLater ws us → IsLater vs us
+later_again vs ws us f g j v there i a here loader who =
+    let b = f j v there i a here loader who in
+    let c = g b.0 b.1 b.2 b.3 b.4 b.5 loader (b.6.who ∙ who) in
+    (c.0, c.1, c.2, c.3, c.4, c.5, on_both a b.4 c.4 b.6 c.6)
+
 pub moments : LawOfMoments
-moments = record { log = log_steps; pages = page_steps; seats = seats }
+moments = record { log = log_steps; pages = page_steps; seats = seats; again = later_again }

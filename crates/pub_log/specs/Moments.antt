@@ -72,7 +72,9 @@ pub record SeatsGoLater : Type 0 where
   pub gathered : (vs : List View) (id other : ℕ) (v w : View) → get_elem? vs id ≡ some v → ¬ (other ≡ id) → get_elem? vs other ≡ some w
       → IsLater vs (set (set vs id (keeping v w)) other gone)
 
+-- and a moment that is later than a later one is later
 pub record LawOfMoments : Type 0 where
   pub log : LogStepsGoLater
   pub pages : PageStepsGoLater
   pub seats : SeatsGoLater
+  pub again : (vs ws us : List View) → IsLater vs ws → IsLater ws us → IsLater vs us

@@ -10,7 +10,7 @@ pub fn law_of_history()
     ensures last { LawOfLastHistory }
 {}
 
-/// Each kind of step on a board leads to a later moment, whoever makes it. The function does nothing, at no cost: its clause is the law.
+/// Each kind of step on a board leads to a later moment, whoever makes it, and so do any number of steps. The function does nothing, at no cost: its clause is the law.
 pub fn law_of_moments()
     ensures { LawOfMoments }
 {}

@@ -14,10 +14,10 @@ loop-callers-init c =
     let count = c.requires.count in
     let any : 0 < length c.args.callers.items = omega (arith, some_loader, count) in
     let e = first_out _ _ _ any c.remove.ensures.value c.remove.ensures.items in record {
-  rest = rest_of _ _ _ _ e c.requires.callers;
-  table = ap (λ (x : Seated). x.table) c.seat.view_is ∙ (first_of_all _ _ _ _ e c.requires.callers).of.table;
-  accounts = accounts_first c.seat.inside.seat.me.0 _ _ _ e c.seat.invariant.2 (ap (λ (x : Seated). x.account) c.seat.view_is);
-}
+      rest = rest_of _ _ _ _ e c.requires.callers;
+      table = ap (λ (x : Seated). x.table) c.seat.view_is ∙ (first_of_all _ _ _ _ e c.requires.callers).of.table;
+      accounts = accounts_first c.seat.inside.seat.me.0 _ _ _ e c.seat.invariant.2 (ap (λ (x : Seated). x.account) c.seat.view_is);
+    }
 
 pub keep-requires-clause-other : goal.keep-requires-clause-other
 keep-requires-clause-other c = let any : 0 < length c.loop-callers.callers.items = grind (arith, common_steps) in
