@@ -5,3 +5,7 @@ pub mod TallyTests
 pub mod Laying
 pub mod Zips
 pub mod Naming
+pub mod OneScreened
+pub mod LiveTold
+pub mod Surveyed
+pub mod Weighed
