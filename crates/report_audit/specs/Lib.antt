@@ -5,4 +5,7 @@ pub mod Reads
 pub mod Named
 pub mod Telling
 pub mod Audits
+pub mod SoFars
+pub mod LineChecks
+pub mod BlockChecks
 pub mod Weighing
