@@ -6,3 +6,4 @@ pub mod Jobs
 pub mod Printed
 pub mod Rooms
 pub mod Calls
+pub mod Pruning

@@ -45,6 +45,7 @@ use Rattle.board_jobs.proofs.Places.{map_back}
 use Rattle.board_jobs.proofs.Printing.{entries_printed}
 use Rattle.board_jobs.proofs.LogLines.{log_lines}
 use Rattle.board_jobs.proofs.Reported.{known_end, reported}
+use Rattle.board_jobs.proofs.Rested.{run_pruned}
 use Rattle.board_jobs.proofs.Ruled.{roomed, ruled}
 use Rattle.board_jobs.proofs.Told.{all_dealt}
 use Rattle.script_run.specs.declared.gate.Worker.{Worker}
@@ -260,6 +261,7 @@ pub record IsClosedWith (shape : Shape) (accounts : List Account) (last : Closin
   pub accounts_are : last.accounts ≡ accounts
   pub end : HasEnd shape accounts last.history
   pub settled : IsSettled last
+  pub shown : IsShown last
 
 -- all groups are done, and the log is written
 pub run_is : (told : Option (List File)) (script : List ℕ) (groups : List Group) (shape : Shape) (budget : ℕ) (accounts : List Account) (text text_now : List ℕ) (last : Closing) → IsShape shape → IsClosedWith shape accounts last → ScriptWasRead told script groups → text_now ≡ text ++ log_text (map log_line last.history) → HasDone told groups shape budget accounts text → IsRunOf told script shape budget text_now last
@@ -318,6 +320,9 @@ run_is told script groups shape budget accounts text text_now last limits closed
       each = λ i a there.
           let at = subst (λ (l : List Account). get_elem? l i ≡ some a) closed.accounts_are there in
           record { who = end.callers i a at; entries = entries_printed shape done.files budget groups done.new accounts done.front done.done limits done.are_new done.are_done i a at };
+      pruned = λ i a from there.
+          let at = subst (λ (l : List Account). get_elem? l i ≡ some a) closed.accounts_are there in
+          run_pruned shape done.files budget groups done.new accounts done.front done.done limits done.are_new done.are_done i a from at;
     }
 
 -- ---- the end of a board
@@ -359,6 +364,7 @@ closed_with b workers last are shape_is accounts_is settled shown =
       accounts_are = now;
       end = settled_end b.shape (accounts_of workers) last settled shown shape_is now count callers;
       settled = settled;
+      shown = shown;
     }
 
 -- callers that are ready are at rest
