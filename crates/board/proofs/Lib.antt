@@ -4,6 +4,7 @@ pub mod PageWords
 pub mod Stocks
 pub mod TreeWords
 mod MetWords
+mod PassWords
 pub mod Exchanged
 pub mod News
 pub mod Gathers

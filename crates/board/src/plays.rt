@@ -290,6 +290,16 @@ impl<R: Reaches> Play<(), View> for LoadMore<R> {
     ghost then = { OnBoard (LoadsMore R.number) };
 }
 
+pub(crate) struct PassLeaf<R> {
+    page: PhantomData<R>,
+}
+
+impl<R: Reaches> Play<(), View> for PassLeaf<R> {
+    ghost use Rattle.board_core.specs.Passing.{PassesLeaf};
+
+    ghost then = { PassesLeaf R.number };
+}
+
 pub(crate) struct ClaimWord<C> {
     claim: PhantomData<C>,
 }

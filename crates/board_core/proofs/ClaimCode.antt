@@ -1,5 +1,5 @@
 -- A code word that was 0 is exchanged for a code that no page of the chain shows.
-use Rattle.std.proofs.Common.{◌≡◌, ◌≢◌, ℕ, ◌+◌, ◌*◌, ◌<◌, ◌≤◌, ◌==◌, Bool, false, List, [], ◌∷◌, ◌++◌, length, set, sym, refl, ap, ◌∙◌, subst, arith, inl, inr, ⊎_elim}
+use Rattle.std.proofs.Common.{◌≡◌, ◌≢◌, ℕ, ◌+◌, ◌*◌, ◌<◌, ◌≤◌, ◌==◌, Bool, true, false, List, [], ◌∷◌, ◌++◌, length, set, sym, refl, ap, ◌∙◌, subst, arith, inl, inr, ⊎_elim}
 use mathlib.Core.Option.{some, none}
 use mathlib.Core.Logic.{dite}
 use native.Mathlib.Decide.{ℕ_discrete}
@@ -31,7 +31,7 @@ use Rattle.board_core.proofs.LoadPage.{known_here, slot_allowed}
 use Rattle.board_core.proofs.Linked.{keeps_linked, put_is, link_tree}
 use Rattle.board_core.proofs.Claimed.{own_linked, row_below}
 use Rattle.board_core.proofs.Treed.{by_tree, claim_allowed}
-use Rattle.board_core.specs.KnownPages.{IsMate}
+use Rattle.board_core.specs.KnownPages.{IsMate, HasEarlier}
 use Rattle.board_core.specs.ClassTree.{PageStands}
 use Rattle.board_core.specs.CodeIn.{MayCode}
 use Rattle.board_core.specs.Rows.{HasRow}
@@ -58,7 +58,9 @@ chain_absent k p h vs id j c v r at within inner absent stop last t b g path =
     let s : Sheet = sheet_of p.pool.states vs in
     let there = at_visit v.me.tree.reached j within in
     let known = (known_here k p h vs id v r at).known in
-    let read = chain_read p.pages s r.tree.place (codes_in k p.regions) (IsPlaced vs) r.tree.tree v.me.tree.reached known.fits known.chain x (j, there) ((known.fits j x there).inner inner) stop last c t b
+    let read = chain_read p.pages s r.tree.place (codes_in k p.regions) (IsPlaced vs) r.tree.tree v.me.tree.reached known.fits false
+    (λ i y here e. ⊎_elim (λ (o : HasEarlier v.me.tree.reached y). o) (λ (n : (y.leaf ≡ true) × ((r : ℕ) → IsOldRow k p.regions p.log.slots v.me.tree.front r → ⊥)). let bad : true ≡ false = sym n.0 ∙ e in absurd cc) (known.chain i y here))
+    x (j, there) inner ((known.fits j x there).inner inner) stop last c t b
     (subst (λ (e : Bool). HasSlot p.pages s r.tree.place e c t b) (sym inner) g) path in
     absent read.0 record { there = read.1.there; path = read.1.path; kind = read.1.kind ∙ inner } read.2
 

@@ -11,7 +11,7 @@ use Rattle.board_core.specs.declared.tree.Reached.{Reached}
 use Rattle.board_core.specs.Each.{Each, In}
 use Rattle.board_core.specs.Sheets.{Sheet, IsLinked}
 use Rattle.board_core.specs.ClassTree.{Place, chained, slot_at, page_room, Stands, IsBelow, Tree}
-use Rattle.board_core.specs.KnownPages.{place_of, IsFullLeaf, ReachedFits, IsMate, HasEarlier, IsRead, IsEnd, EndTells, IsTurned, KnowsPages}
+use Rattle.board_core.specs.KnownPages.{place_of, IsFullLeaf, ReachedFits, IsMate, HasEarlier, IsInChain, IsRead, IsEnd, EndTells, IsTurned, KnowsPages}
 use Rattle.board_core.proofs.Lists.{each_set, each_snoc, inside}
 use Rattle.board_core.proofs.Seen.{IsAtEnd, end_tells}
 
@@ -37,6 +37,13 @@ pub grown_earlier : (rs ss : List Reached) → Grows rs ss → (x : Reached) →
 grown_earlier rs ss g x h above = let c = h above in let y = g c.0 c.1.there in let e = y.2.place in let rank : y.0.rank ≡ c.0.rank = ap (λ (p : Place). p.rank) e in
     let old = c.2 in let long = y.2.long in let wide = c.3 in
     (y.0, record { there = y.1; path = ap (λ (p : Place). p.path) e ∙ c.1.path; kind = ap (λ (p : Place). p.leaf) e ∙ c.1.kind }, omega arith, omega arith)
+
+pub grown_chain : (old : ℕ → Type 0) (rs ss : List Reached) → Grows rs ss → (x : Reached) → IsInChain old rs x → IsInChain old ss x
+grown_chain old rs ss g x h = ⊎_elim (λ (e : HasEarlier rs x). inl (grown_earlier rs ss g x e)) (λ (n : (x.leaf ≡ true) × ((r : ℕ) → old r → ⊥)). inr n) h
+
+-- where a row is old, the page before each was read whole
+pub all_earlier : (old : ℕ → Type 0) (rs : List Reached) → Each (IsInChain old rs) rs → (r : ℕ) → old r → Each (HasEarlier rs) rs
+all_earlier old rs chain r o j x there = ⊎_elim (λ (e : HasEarlier rs x). e) (λ (n : (x.leaf ≡ true) × ((r : ℕ) → old r → ⊥)). absurd (n.1 r o)) (chain j x there)
 
 pub same_more : (x : Reached) → IsMore x x
 same_more x = record { page = refl; place = refl; slots = λ n h. h; long = omega arith }
@@ -79,13 +86,13 @@ module _ (w : ℕ → ℕ → ℕ) (s : Sheet) (m : ℕ → Place) (codes : ℕ 
       let gone : y.leaf ≡ true → (r : ℕ) → old r → IsBelow y.path (codes r) → IsLinked s y.page ⊎ ((i : ℕ) × (i < 14) × (w y.page (2 + i) ≡ r)) =
       subst (λ (z : ℕ × Place). z.1.leaf ≡ true → (r : ℕ) → old r → IsBelow z.1.path (codes r) → IsLinked s z.0 ⊎ ((i : ℕ) × (i < 14) × (w z.0 (2 + i) ≡ r))) (λ i. (sym n.more.page i, sym e i)) (k.gone j x at) in
       let fits : Each (ReachedFits w s m) ss = each_set (ReachedFits w s m) rs j y n.fits (λ i z _ there. k.fits i z there) in
-      let chain : Each (HasEarlier ss) ss = each_set (HasEarlier ss) rs j y
-      (subst (λ (p : Place). 0 < p.rank → (z : Reached) × IsMate ss p.path p.leaf z × (z.rank + 1 ≡ p.rank) × (page_room p.leaf ≤ length z.slots)) (sym e) (grown_earlier rs ss g x (k.chain j x at)))
-      (λ i z _ there. grown_earlier rs ss g z (k.chain i z there)) in record {
+      let chain : Each (IsInChain old ss) ss = each_set (IsInChain old ss) rs j y
+      (subst (λ (p : Place). (0 < p.rank → (z : Reached) × IsMate ss p.path p.leaf z × (z.rank + 1 ≡ p.rank) × (page_room p.leaf ≤ length z.slots)) ⊎ ((p.leaf ≡ true) × ((r : ℕ) → old r → ⊥))) (sym e) (grown_chain old rs ss g x (k.chain j x at)))
+      (λ i z _ there. grown_chain old rs ss g z (k.chain i z there)) in record {
         fits = fits;
         chain = chain;
         ends = each_set (λ (z : Reached). IsEnd z.leaf z → (r : ℕ) → old r → EndTells codes ss z.leaf z r) rs j y
-            (λ is r o. end_tells w s m codes put t ss fits chain y (j, set_here rs j y (inside rs j x at)) (n.end is) r (stands r o) (λ leaf. gone leaf r o))
+            (λ is r o. end_tells w s m codes put t ss fits (all_earlier old ss chain r o) y (j, set_here rs j y (inside rs j x at)) (n.end is) r (stands r o) (λ leaf. gone leaf r o))
             (λ i z _ there is r o. grown_tells codes rs ss g z.leaf z r (k.ends i z there is r o));
         turned = each_set (λ (z : Reached). z.leaf ≡ true → IsTurned s m z) rs j y
             (subst (λ (z : ℕ × Place). z.1.leaf ≡ true → IsTurnedAt s m z.0 z.1) (λ i. (sym n.more.page i, sym e i)) (k.turned j x at)) (λ i z _ there. k.turned i z there);
@@ -101,7 +108,7 @@ module _ (w : ℕ → ℕ → ℕ) (s : Sheet) (m : ℕ → Place) (codes : ℕ 
     pub links : y.links ≡ []
     pub zero : y.zero ≡ false
     pub more : y.more ≡ Unread
-    pub chain : HasEarlier rs y
+    pub chain : IsInChain old rs y
 
   not_end : (b : Bool) (y : Reached) → y.slots ≡ [] → y.zero ≡ false → IsEnd b y → ⊥
   not_end true y e z h = ⊎_elim (λ (u : y.zero ≡ true). let clash : false ≡ true = sym z ∙ u in absurd cc) (λ (u : (length y.slots ≡ 14) × ((length y.path < chained) ⊎ (y.more ≡ Absent))). let n : length y.slots ≡ 0 = ap length e in let f : length y.slots ≡ 14 = u.0 in absurd (omega arith)) h
@@ -122,7 +129,7 @@ module _ (w : ℕ → ℕ → ℕ) (s : Sheet) (m : ℕ → Place) (codes : ℕ 
           more = λ p h. let clash : Unread ≡ To p = sym n.more ∙ h in absurd cc;
           old = λ _. inl n.linked;
         } k.fits;
-        chain = each_snoc (HasEarlier ss) rs y (grown_earlier rs ss g y n.chain) (λ i z there. grown_earlier rs ss g z (k.chain i z there));
+        chain = each_snoc (IsInChain old ss) rs y (grown_chain old rs ss g y n.chain) (λ i z there. grown_chain old rs ss g z (k.chain i z there));
         ends = each_snoc (λ (z : Reached). IsEnd z.leaf z → (r : ℕ) → old r → EndTells codes ss z.leaf z r) rs y (λ is r o. absurd (not_end y.leaf y n.slots n.zero is)) (λ i z there is r o. grown_tells codes rs ss g z.leaf z r (k.ends i z there is r o));
         turned = each_snoc (λ (z : Reached). z.leaf ≡ true → IsTurned s m z) rs y
             (λ _ first. (y.page, n.linked, ap (λ (p : Place). p.path) n.place, ap (λ (p : Place). p.rank) n.place ∙ first, inl refl)) k.turned;

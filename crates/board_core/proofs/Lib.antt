@@ -88,6 +88,7 @@ pub mod PoolTree
 pub mod Treed
 pub mod StoreOwn
 pub mod LoadPage
+pub mod PassLeaf
 pub mod Claimed
 pub mod LinkLeaf
 pub mod ClaimEntry
@@ -105,6 +106,7 @@ pub mod ClaimWord
 pub mod LoadOwnCode
 pub mod LoadMet
 pub mod Boards
+pub mod PassedFull
 pub mod SplitNote
 pub mod SplitCaller
 pub mod JoinNote

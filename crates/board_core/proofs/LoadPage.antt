@@ -58,7 +58,7 @@ last_held true p zero x e = sym (some-injective p x e)
 last_held true p (suc j) x e = absurd (some-ne-none x (sym e))
 last_held false p j x e = absurd (some-ne-none x (sym e))
 
-held_snoc : (rs : List Reached) (z : Reached) (j x : ℕ) → get_elem? (held_in (rs ++ z ∷ [])) j ≡ some x → IsAmong (held_in rs) x ⊎ (x ≡ z.page)
+pub held_snoc : (rs : List Reached) (z : Reached) (j x : ℕ) → get_elem? (held_in (rs ++ z ∷ [])) j ≡ some x → IsAmong (held_in rs) x ⊎ (x ≡ z.page)
 held_snoc [] z j x e = inr (last_held z.leaf z.page j x e)
 held_snoc (r ∷ rs) z j x e = held_more r.leaf r.page (held_in rs) (held_in (rs ++ z ∷ [])) z.page (held_snoc rs z) j x e
 

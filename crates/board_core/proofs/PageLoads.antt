@@ -66,7 +66,7 @@ module _ {A : Type 0} where
 pub branch_path : (page : ℕ → ℕ) (P : Place) (way : Way) (R : Place) (k : ℕ) → way ≡ Branch k → Follows page P way R → (page (2 + 2 * k) ≢ 0) × (R.path ≡ P.path ++ page (2 + 2 * k) ∷ []) × (R.rank ≡ 0)
 branch_path page P way R k e f = let g : Follows page P (Branch k) R = subst (λ (x : Way). Follows page P x R) e f in (g.2, g.3, g.4)
 
-more_path : (page : ℕ → ℕ) (P : Place) (way : Way) (R : Place) → way ≡ More → Follows page P way R → (R.path ≡ P.path) × (R.rank ≡ P.rank + 1) × (R.leaf ≡ P.leaf)
+pub more_path : (page : ℕ → ℕ) (P : Place) (way : Way) (R : Place) → way ≡ More → Follows page P way R → (R.path ≡ P.path) × (R.rank ≡ P.rank + 1) × (R.leaf ≡ P.leaf)
 more_path page P way R e f = subst (λ (x : Way). Follows page P x R) e f
 
 length_links : (ls : List Link) (j : ℕ) (l : Link) → length (set ls j l) ≡ length ls
@@ -282,7 +282,7 @@ module _ (w : ℕ → ℕ → ℕ) (s : Sheet) (m : ℕ → Place) (codes : ℕ 
           let path : (m v).path ≡ (visited rs n).path ++ c ∷ [] = bt.1 ∙ (λ j. (stands_at j).path ++ known_code.1 j ∷ []) in
           let place : m v ≡ place_of (led (visited rs n) i c v (m v).leaf) = λ j. record { path = path j; rank = bt.2 j; leaf = (m v).leaf; from = from.from j; way = from.by j } in
           with_new (set rs n (with_link i (To v) (visited rs n))) mm.known mm.kept mm.pairs z
-          record { linked = from.linked; place = place; slots = refl; links = refl; zero = refl; more = refl; chain = λ above. absurd (omega arith) }
+          record { linked = from.linked; place = place; slots = refl; links = refl; zero = refl; more = refl; chain = inl (λ above. absurd (omega arith)) }
 
       -- the page that it leads to is one of the tree
       pub link_linked : (v : ℕ) → w (visited rs n).page (3 + 2 * i) ≡ v → v ≢ 0 → IsLinked s v
@@ -333,12 +333,12 @@ module _ (w : ℕ → ℕ → ℕ) (s : Sheet) (m : ℕ → Place) (codes : ℕ 
             links = refl;
             zero = refl;
             more = refl;
-            chain = λ above. (
+            chain = inl (λ above. (
               with_more (To v) (visited rs n),
               record { there = (n, set_here rs n (with_more (To v) (visited rs n)) within); path = refl; kind = refl },
               refl,
               (let wide : length (visited rs n).slots ≡ page_room (visited rs n).leaf = full in omega arith),
-            );
+            ));
           }
 
       -- the next page is one of the tree, of the next rank

@@ -17,12 +17,12 @@ has_at (x ∷ xs) zero h = (x, refl)
 has_at (x ∷ xs) (suc i) h = has_at xs i (omega arith)
 
 module _ (w : ℕ → ℕ → ℕ) (s : Sheet) (m : ℕ → Place) (codes : ℕ → List ℕ) (put : ℕ → Type 0) (t : Tree w s m codes put)
-    (rs : List Reached) (fits : Each (ReachedFits w s m) rs) (chain : Each (HasEarlier rs) rs) where
+    (rs : List Reached) (fits : Each (ReachedFits w s m) rs) (kind : Bool) (chain : Each (λ y. y.leaf ≡ kind → HasEarlier rs y) rs) where
   -- the page of a smaller rank in a chain was read whole
-  pub earlier : (n target : ℕ) (x : Reached) → In x rs → x.rank ≡ target + suc n → (y : Reached) × IsMate rs x.path x.leaf y × (y.rank ≡ target) × (page_room x.leaf ≤ length y.slots)
-  earlier zero target x h e = let c = chain h.0 x h.1 (omega arith) in let rank = c.2 in (c.0, c.1, omega arith, c.3)
-  earlier (suc n) target x h e = let c = chain h.0 x h.1 (omega arith) in let rank = c.2 in
-      let d = earlier n target c.0 c.1.there (omega arith) in
+  pub earlier : (n target : ℕ) (x : Reached) → In x rs → x.leaf ≡ kind → x.rank ≡ target + suc n → (y : Reached) × IsMate rs x.path x.leaf y × (y.rank ≡ target) × (page_room x.leaf ≤ length y.slots)
+  earlier zero target x h is e = let c = chain h.0 x h.1 is (omega arith) in let rank = c.2 in (c.0, c.1, omega arith, c.3)
+  earlier (suc n) target x h is e = let c = chain h.0 x h.1 is (omega arith) in let rank = c.2 in
+      let d = earlier n target c.0 c.1.there (c.1.kind ∙ is) (omega arith) in
       (d.0, record { there = d.1.there; path = d.1.path ∙ c.1.path; kind = d.1.kind ∙ c.1.kind }, d.2, subst (λ (b : Bool). page_room b ≤ length d.0.slots) c.1.kind d.3)
 
   -- a word that is known
@@ -33,7 +33,7 @@ module _ (w : ℕ → ℕ → ℕ) (s : Sheet) (m : ℕ → Place) (codes : ℕ 
       let same : a.0 ≡ n = sym known ∙ (ap (λ x. w x (slot_at y.leaf k)) e ∙ there) in
       (k, a.1 ∙ ap some same)
 
-  module _ (x : Reached) (h : In x rs) (l : IsLinked s x.page) where
+  module _ (x : Reached) (h : In x rs) (is : x.leaf ≡ kind) (l : IsLinked s x.page) where
     place : m x.page ≡ place_of x
     place = (fits h.0 x h.1).place l
 
@@ -67,7 +67,7 @@ module _ (w : ℕ → ℕ → ℕ) (s : Sheet) (m : ℕ → Place) (codes : ℕ 
         (λ z. (x, record { there = h; path = refl; kind = refl }, known_read x n q k h (sym same) (omega arith) sh.there))
         (λ z. absurd (sh.some_n (sym sh.there ∙ (ap (λ p. w p (slot_at x.leaf k)) same ∙ stop k (omega arith) sh.room)))))
         (λ y. dite (ℕ_discrete ((m q).rank - x.rank) 0)
-        (λ z. let e = earlier (x.rank - suc (m q).rank) (m q).rank x h (omega arith) in
+        (λ z. let e = earlier (x.rank - suc (m q).rank) (m q).rank x h is (omega arith) in
         let y2 : Reached = e.0 in let mate = e.1 in let rank2 : y2.rank ≡ (m q).rank = e.2 in
         let l2 = early_linked y2 mate (omega arith) in
         let place2 = (fits mate.there.0 y2 mate.there.1).place l2 in
@@ -94,10 +94,10 @@ module _ (w : ℕ → ℕ → ℕ) (s : Sheet) (m : ℕ → Place) (codes : ℕ 
       let page : PageStands (w x.page) (place_of x) = subst (λ (z : Place). PageStands (w x.page) z) place (t.pages x.page l) in
       let room = f.room in
       dite (ℕ_discrete (length x.slots) (page_room x.leaf))
-      (λ y. chain_read w s m codes put t rs fits chain x h l (λ i more less. absurd (omega arith))
+      (λ y. chain_read w s m codes put t rs fits x.leaf (λ j z there _. chain j z there) x h refl l (λ i more less. absurd (omega arith))
       (⊎_elim (λ (z : w x.page 1 ≡ 0). z) (λ (z : (x.leaf ≡ true) × (length x.path < chained)). page.low z.0 z.1) (end.full y)) n q k sh path)
       (λ y. let none = end.zero (omega arith) in
-      chain_read w s m codes put t rs fits chain x h l (λ i more less. page.front (length x.slots) i more less none)
+      chain_read w s m codes put t rs fits x.leaf (λ j z there _. chain j z there) x h refl l (λ i more less. page.front (length x.slots) i more less none)
       (dite (ℕ_discrete (w x.page 1) 0) (λ z. z) (λ z. absurd (page.full z (length x.slots) (omega arith) none))) n q k sh path)
 
   tells : (b : Bool) → x.leaf ≡ b → (x.leaf ≡ true → IsBelow x.path (codes r) → IsLinked s x.page ⊎ ((i : ℕ) × (i < 14) × (w x.page (2 + i) ≡ r))) → EndTells codes rs b x r
@@ -121,7 +121,7 @@ module _ (w : ℕ → ℕ → ℕ) (s : Sheet) (m : ℕ → Place) (codes : ℕ 
       let all : length x.slots ≡ 14 = dite (ℕ_discrete (length x.slots) 14) (λ y. y)
       (λ y. absurd (o.full (length x.slots) (omega arith) (ap (λ (b : Bool). w x.page (slot_at b (length x.slots))) (sym e) ∙ end.zero (omega arith)))) in
       let inside = g.1 in
-      (x, record { there = h; path = refl; kind = refl }, known_read w s m codes put t rs fits chain x r x.page g.0 h refl (omega arith) (ap (λ (b : Bool). w x.page (slot_at b g.0)) e ∙ g.2)))
+      (x, record { there = h; path = refl; kind = refl }, known_read w s m codes put t rs fits x.leaf (λ j z there _. chain j z there) x r x.page g.0 h refl (omega arith) (ap (λ (b : Bool). w x.page (slot_at b g.0)) e ∙ g.2)))
       ((fits h.0 x h.1).old e))
       (gone e below))
 

@@ -16,7 +16,7 @@ use Rattle.board_core.specs.RoomRule.{SomeAccount}
 use Rattle.board_core.specs.Sheets.{Sheet, sheet_of, IsLinked, owns}
 use Rattle.board_core.specs.Rows.{HasRow, IsBegun, IsPlaced}
 use Rattle.board_core.specs.ClassTree.{Place, IsBelow, Tree, slot_at}
-use Rattle.board_core.specs.KnownPages.{ReachedFits, HasEarlier, EndTells, IsEnd, AreKept, KnowsPages, IsTurned}
+use Rattle.board_core.specs.KnownPages.{ReachedFits, HasEarlier, IsInChain, EndTells, IsEnd, AreKept, KnowsPages, IsTurned}
 use Rattle.board_core.specs.KnownRule.{Knows, KnownRule}
 use Rattle.board_core.specs.TreeRule.{TreeRule}
 use Rattle.board_core.specs.After.{after_made, root}
@@ -49,10 +49,10 @@ tells_codes : (c d : ℕ → List ℕ) (rs : List Reached) (b : Bool) (x : Reach
 tells_codes c d rs true x r same e = λ below. e (subst (λ (l : List ℕ). IsBelow x.path l) same below)
 tells_codes c d rs false x r same e = λ code rest is. e code rest (sym same ∙ is)
 
-known_codes : (w : ℕ → ℕ → ℕ) (s : Sheet) (m : ℕ → Place) (c d : ℕ → List ℕ) (old older : ℕ → Type 0) (rs : List Reached) → ((r : ℕ) → older r → old r) → ((r : ℕ) → old r → d r ≡ c r) → KnowsPages w s m c old rs → KnowsPages w s m d older rs
+pub known_codes : (w : ℕ → ℕ → ℕ) (s : Sheet) (m : ℕ → Place) (c d : ℕ → List ℕ) (old older : ℕ → Type 0) (rs : List Reached) → ((r : ℕ) → older r → old r) → ((r : ℕ) → old r → d r ≡ c r) → KnowsPages w s m c old rs → KnowsPages w s m d older rs
 known_codes w s m c d old older rs less same k = record {
   fits = k.fits;
-  chain = k.chain;
+  chain = λ j x there. ⊎_elim (λ (e : HasEarlier rs x). inl e) (λ (n : (x.leaf ≡ true) × ((r : ℕ) → old r → ⊥)). inr (n.0, λ r o. n.1 r (less r o))) (k.chain j x there);
   ends = λ j x there is r o. tells_codes c d rs x.leaf x r (same r (less r o)) (k.ends j x there is r (less r o));
   turned = k.turned;
   absent = λ j x there i code a b r o below. k.absent j x there i code a b r (less r o) (subst (λ (l : List ℕ). IsBelow (x.path ++ code ∷ []) l) (same r (less r o)) below);
@@ -89,7 +89,7 @@ pub knows_nothing : (w : ℕ → ℕ → ℕ) (s : Sheet) (m : ℕ → Place) (c
 knows_nothing w s m c placed old t none olds = record {
   known = subst (λ (l : List Reached). KnowsPages w s m c (old t.front) l) (sym none) record {
     fits = each_none (ReachedFits w s m);
-    chain = each_none (HasEarlier []);
+    chain = each_none (IsInChain (old t.front) []);
     ends = each_none (λ x. IsEnd x.leaf x → (r : ℕ) → old t.front r → EndTells c [] x.leaf x r);
     turned = each_none (λ x. x.leaf ≡ true → IsTurned s m x);
     absent = each_none (λ x. (i code : ℕ) → get_elem? x.links i ≡ some Absent → get_elem? x.slots i ≡ some code → (r : ℕ) → old t.front r → IsBelow (x.path ++ code ∷ []) (c r) → ⊥);
@@ -111,7 +111,7 @@ knows_root w s m c placed old tree t is olds =
       links = refl;
       zero = refl;
       more = refl;
-      chain = λ above. absurd (omega arith);
+      chain = inl (λ above. absurd (omega arith));
     } in record {
       known = subst (λ (l : List Reached). KnowsPages w s m c (old t.front) l) (sym is) here;
       kept = subst (λ (l : List Reached). Each (λ x. x.leaf ≡ true → IsLinked s x.page ⊎ AreKept (w x.page) c placed x.path) l) (sym is)

@@ -49,10 +49,10 @@ use Rattle.board_core.proofs.PublishedFrame.{published_grown}
 use Rattle.board_core.proofs.OldMoved.{pins_same, pin_here}
 
 -- a step of the tree. All parts of the log, of the regions and of the states of pages are framed here
-pub by_tree : (k : Shape) (p : Parts) (w : ℕ → ℕ → ℕ) (h : List Event) (vs : List View) (id : ℕ) (v : View) (a : Account) → Rule k p h vs → get_elem? vs id ≡ some v → LeavesLog v.me a → ((q : Row) → In q v.me.tree.placed → In q a.tree.placed) → a.tree.front ≡ v.me.tree.front
+pub by_passing : (k : Shape) (p : Parts) (w : ℕ → ℕ → ℕ) (h : List Event) (vs : List View) (id : ℕ) (v : View) (a : Account) → Rule k p h vs → get_elem? vs id ≡ some v → LeavesLog v.me a → ((q : Row) → In q v.me.tree.placed → In q a.tree.placed) → a.tree.front ≤ v.me.tree.front
     → PoolRule k p.pool (set vs id (with_me v a)) → OwnRule w (set vs id (with_me v a)) → RowRule k (set vs id (with_me v a)) → KeepsPages p.pages w (sheet_of p.pool.states vs) (sheet_of p.pool.states (set vs id (with_me v a))) → TreeRule k p.pool.states w (codes_in k p.regions) (IsOldRow k p.regions p.log.slots) (set vs id (with_me v a))
     → Rule k (record p { pages = w }) h (set vs id (with_me v a))
-by_tree k p w h vs id v a r at rest more pinned pool own rows stay tree = record {
+by_passing k p w h vs id v a r at rest more pinned pool own rows stay tree = record {
   chains = chains_later k p.pages w (sheet_of p.pool.states vs) (sheet_of p.pool.states (set vs id (with_me v a))) vs id v a r.chains at stay rest.entries;
   swept = swept_step k p (record p { pages = w }) h vs id v a r at (λ j u there i x here b s in_list t _ _ _. refl) (not_later p.log p.log refl refl) (λ n. some_changed (λ x. HasRow n x.tree.placed) vs id v a at (λ t. (t.0, more t.0 t.1, t.2))) (swept_here k p h vs id v a r at rest.entries);
   seats = seats_same k vs id v a r.seats at rest.who;
@@ -68,10 +68,16 @@ by_tree k p w h vs id v a r at rest more pinned pool own rows stay tree = record
   own = own;
   empty = empty_same k p.pool.states vs id v a r.empty at rest.entries;
   rows = rows;
-  pins = pins_same p.log.front p.log.front vs id v a r.pins at (omega arith) (let e = pinned in let most = pin_here p.log.front vs id v r.pins at in omega arith);
+  pins = pins_same p.log.front p.log.front vs id v a r.pins at (omega arith) (let less = pinned in let most = pin_here p.log.front vs id v r.pins at in omega arith);
   published = published_grown k vs id v a r.published at rest.who (ap (λ (x : RoomAccount). x.used) rest.room) (ap (λ (x : RoomAccount). x.published) rest.room) (ap (λ (x : LogAccount). x.pending.shows) rest.log) more;
   tree = tree;
 }
+
+-- what the caller had seen at its pin is as it was
+pub by_tree : (k : Shape) (p : Parts) (w : ℕ → ℕ → ℕ) (h : List Event) (vs : List View) (id : ℕ) (v : View) (a : Account) → Rule k p h vs → get_elem? vs id ≡ some v → LeavesLog v.me a → ((q : Row) → In q v.me.tree.placed → In q a.tree.placed) → a.tree.front ≡ v.me.tree.front
+    → PoolRule k p.pool (set vs id (with_me v a)) → OwnRule w (set vs id (with_me v a)) → RowRule k (set vs id (with_me v a)) → KeepsPages p.pages w (sheet_of p.pool.states vs) (sheet_of p.pool.states (set vs id (with_me v a))) → TreeRule k p.pool.states w (codes_in k p.regions) (IsOldRow k p.regions p.log.slots) (set vs id (with_me v a))
+    → Rule k (record p { pages = w }) h (set vs id (with_me v a))
+by_tree k p w h vs id v a r at rest more pinned pool own rows stay tree = by_passing k p w h vs id v a r at rest more (let same = pinned in omega arith) pool own rows stay tree
 
 -- ---- the words of pages in the table
 

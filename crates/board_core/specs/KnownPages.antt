@@ -37,6 +37,10 @@ pub record IsMate (rs : List Reached) (on : List ℕ) (leaf : Bool) (y : Reached
 abbrev pub HasEarlier : List Reached → Reached → Type 0
 HasEarlier rs x = 0 < x.rank → (y : Reached) × IsMate rs x.path x.leaf y × (y.rank + 1 ≡ x.rank) × (page_room x.leaf ≤ length y.slots)
 
+-- or x is a leaf, and no row is old: then the page before it may have been passed unread
+abbrev pub IsInChain : (ℕ → Type 0) → List Reached → Reached → Type 0
+IsInChain old rs x = HasEarlier rs x ⊎ ((x.leaf ≡ true) × ((r : ℕ) → old r → ⊥))
+
 -- n was read in a chain
 abbrev pub IsRead : List Reached → List ℕ → Bool → ℕ → Type 0
 IsRead rs path leaf n = (y : Reached) × IsMate rs path leaf y × In n y.slots
@@ -57,7 +61,7 @@ IsTurned s m x = x.rank ≡ 0 → (p : ℕ) × IsLinked s p × ((m p).path ≡ x
 
 pub record KnowsPages (w : ℕ → ℕ → ℕ) (s : Sheet) (m : ℕ → Place) (codes : ℕ → List ℕ) (old : ℕ → Type 0) (rs : List Reached) : Type 0 where
   pub fits : Each (ReachedFits w s m) rs
-  pub chain : Each (HasEarlier rs) rs
+  pub chain : Each (IsInChain old rs) rs
   pub ends : Each (λ x. IsEnd x.leaf x → (r : ℕ) → old r → EndTells codes rs x.leaf x r) rs
   pub absent : Each (λ x. (i c : ℕ) → get_elem? x.links i ≡ some Absent → get_elem? x.slots i ≡ some c → (r : ℕ) → old r → IsBelow (x.path ++ c ∷ []) (codes r) → ⊥) rs
   pub turned : Each (λ x. x.leaf ≡ true → IsTurned s m x) rs

@@ -50,5 +50,6 @@ pub mod Answers
 pub mod Holds
 pub mod Steps
 pub mod Met
+pub mod Passing
 pub mod Boards
 pub mod Sweeps

@@ -24,13 +24,12 @@ use Rattle.class_tree.specs.Walking.{here, Rest, rest_of, shown_of, IsTarget, Is
 use Rattle.class_tree.proofs.Pages.{target_kept}
 use Rattle.class_tree.proofs.Grown.{grown_more, grown_goes, rest_more, lists_more, goes_on, goes_same}
 use Rattle.class_tree.proofs.Chain.{IsWhole, whole, whole_less, next_at, IsAtEnd, at_end_of, depth_is, stored_header, next_header, may_load_more, stocked_without}
-use Rattle.class_tree.proofs.Searching.{goes_less, reads_goes, full_on, none_full, all_full, chain_refused, has_walked}
 use Rattle.class_tree.proofs.Entering.{to_place, goes_places}
 use Rattle.class_tree.proofs.Loadings.{grows_equal}
-use Rattle.class_tree.proofs.Counting.{counts_more, reads_counts, may_on}
+use Rattle.class_tree.proofs.Counting.{counts_more, may_on}
 
 -- leaves of the last depth chain
-deep_enough : (n : ℕ) → n ≡ 5 → chained ≤ n
+pub deep_enough : (n : ℕ) → n ≡ 5 → chained ≤ n
 unfolding chained
 deep_enough n is = omega arith
 
@@ -110,46 +109,3 @@ leaf_lost k c d e f g s next depth rank word found page header t h load none rea
 
 pub some_next : (k : Shape) (c d : Seated) (s : Stop) (depth rank : ℕ) (t : Target) (o : Option Stop) (next : Stop) → o ≡ Some next → GoesBehind k c d s depth rank t o → IsNextLeaf k c d s next depth rank t
 some_next k c d s depth rank t o next e g = subst (GoesBehind k c d s depth rank t) e g
-
--- ---- the loop
-
-pub record IsAlongLeaves (k : Shape) (c d : Seated) (first s : Stop) (depth rank : ℕ) (t : Target) : Type 0 where
-  pub leaf : IsAtLeaf k d.account s depth rank 0 t
-  pub goes : Goes 0 c d
-  pub linked : d.account.counts ≡ c.account.counts
-  pub full : AreFull d.account s.number (take depth t.codes) true rank
-  pub number : s.number ≡ first.number + rank
-
-pub leaves_first : (k : Shape) (c : Seated) (s : Stop) (depth : ℕ) (t : Target) → IsAtLeaf k c.account s depth 0 0 t → IsAlongLeaves k c c s s depth 0 t
-leaves_first k c s depth t h = record { leaf = h; goes = goes_same 0 c; linked = refl; full = none_full c.account s.number (take depth t.codes) true; number = omega arith }
-
-pub leaves_read : (k : Shape) (c d e : Seated) (first s : Stop) (depth rank : ℕ) (t : Target) → IsAlongLeaves k c d first s depth rank t → Reads d e s.number → Goes 0 c e
-leaves_read k c d e first s depth rank t h reads = goes_on 0 0 c d e (omega arith) h.goes (goes_less 0 s.number d e (omega arith) (reads_goes s.number d e reads))
-
-pub leaves_may : (k : Shape) (c d e : Seated) (first s : Stop) (depth rank : ℕ) (t : Target) → IsAlongLeaves k c d first s depth rank t → Reads d e s.number → MayLink c.account 1 → MayLink e.account 1
-leaves_may k c d e first s depth rank t h reads may = may_on 1 c.account e.account (leaves_read k c d e first s depth rank t h reads).rest (reads_counts s.number d e reads ∙ h.linked) may
-
-pub leaves_next : (k : Shape) (c d e f : Seated) (first s next : Stop) (depth rank : ℕ) (t : Target) → IsAlongLeaves k c d first s depth rank t → Reads d e s.number → IsAtLeaf k e.account s depth rank 14 t → IsNextLeaf k e f s next depth rank t → IsAlongLeaves k c f first next depth (rank + 1) t
-leaves_next k c d e f first s next depth rank t h reads end n = record {
-  leaf = n.leaf;
-  linked = n.linked ∙ (reads_counts s.number d e reads ∙ h.linked);
-  goes = goes_on 0 0 c e f (omega arith) (leaves_read k c d e first s depth rank t h reads) (goes_less 0 (s.number + 1) e f (omega arith) n.goes);
-  full = subst (λ (m : ℕ). AreFull f.account m (take depth t.codes) true (rank + 1)) (sym n.number)
-      (full_on k d.account e.account f.account s (take depth t.codes) rank true h.full (reads_goes s.number d e reads).stays end.at n.goes.stays);
-  number = (let now = n.number in let before = h.number in omega arith);
-}
-
-pub leaves_walked : (k : Shape) (a : Account) (s : Stop) (depth rank : ℕ) (t : Target) → IsAtLeaf k a s depth rank 14 t → rank + 1 ≡ k.chain → 2 ≤ k.chain → HasWalked a k.chain
-leaves_walked k a s depth rank t h end several = has_walked k a s (take depth t.codes) rank true h.at end several
-
-pub leaf_chain : (k : Shape) (a b : Account) (s : Stop) (depth rank : ℕ) (t : Target) → AreFull a s.number (take depth t.codes) true rank → ((j : ℕ) → j < s.number → shown_of (visited b.tree.reached j) ≡ shown_of (visited a.tree.reached j)) → IsAtLeaf k b s depth rank 14 t → rank + 1 ≡ k.chain → HasFullChain k b t.row
-leaf_chain k a b s depth rank t full same h end = record {
-  path = take depth t.codes;
-  leaf = true;
-  below = (drop depth t.codes, sym h.target.codes_are ∙ sym (take-append-drop depth t.codes));
-  full = all_full k a b s (take depth t.codes) rank true full same h.at end;
-  none = λ clash. absurd (let e : true ≡ false = clash in cc);
-}
-
-pub leaves_full : (k : Shape) (c d e f : Seated) (first s : Stop) (depth rank : ℕ) (t : Target) → IsAlongLeaves k c d first s depth rank t → Reads d e s.number → IsAtLeaf k e.account s depth rank 14 t → rank + 1 ≡ k.chain → f ≡ with_account e (after_answer e.account (ChainWasFull k.chain ∷ [])) → WasFullChain k c f t.row k.chain
-leaves_full k c d e f first s depth rank t h reads seven end after = chain_refused k 0 c e f t.row (leaves_read k c d e first s depth rank t h reads) (leaf_chain k d.account e.account s depth rank t h.full (reads_goes s.number d e reads).stays seven end) after

@@ -8,6 +8,7 @@ mod Chain
 mod Searching
 mod Entering
 mod Leaves
+mod Passed
 mod Behind
 mod Begun
 mod Loadings

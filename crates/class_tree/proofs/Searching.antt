@@ -19,6 +19,7 @@ use Rattle.board_core.proofs.Lists.{each_none, each_cons}
 use Rattle.board_core.specs.ClassTree.{page_room}
 use Rattle.board_core.specs.After.{visited, noted, after_answer, after_more, after_link}
 use Rattle.board_core.proofs.PageLoads.{at_visit}
+use Rattle.board_core.proofs.PassedFull.{full_read}
 use Rattle.board.specs.Seated.{Place, Seated, IsOf, IsLoader, number_in, with_account}
 use Rattle.class_tree.specs.declared.insert.InsertError.{InsertError}
 use Rattle.class_tree.specs.declared.insert.InsertError.TheVariants.{NoPage, ChainFull}
@@ -145,18 +146,20 @@ full_on k a b e s path rank leaf full same at stays r less = dite (ℕ_discrete 
     (λ is. subst (λ (z : ℕ). WasFullAt e (s.number + 1) path leaf z) (sym is) (shown_full b e (s.number + 1) path leaf rank stays record { number = s.number; before = omega arith; on = at.on; kind = at.kind; at = at.at; full = at.size }))
     (λ other. shown_full b e (s.number + 1) path leaf r stays (later_full b s.number (s.number + 1) path leaf r (omega arith) (shown_full a b s.number path leaf r same (full r (omega arith)))))
 
-was_full : (a : Account) (n : ℕ) (path : List ℕ) (leaf : Bool) (rank : ℕ) → n ≤ length a.tree.reached → WasFullAt a n path leaf rank → WasFull a.tree.reached path leaf rank
-was_full a n path leaf rank most h = record {
+was_full : (k : Shape) (a : Account) (n : ℕ) (path : List ℕ) (leaf : Bool) (rank : ℕ) → n ≤ length a.tree.reached → WasFullAt a n path leaf rank → WasFull k a path leaf rank
+was_full k a n path leaf rank most h = record {
   page = visited a.tree.reached h.number;
   mate = record { there = (h.number, at_visit a.tree.reached h.number (let less = h.before in omega arith)); path = h.on; kind = h.kind };
   rank_is = h.at;
-  full = h.full;
+  full = λ p vs b i less. full_read k p vs a b (visited a.tree.reached h.number) (h.number, at_visit a.tree.reached h.number (let before = h.before in omega arith))
+      (let size = h.full in let same : page_room (visited a.tree.reached h.number).leaf ≡ page_room leaf = ap page_room h.kind in omega arith) i less;
+  read = λ inner. h.full ∙ ap page_room inner;
 }
 
 -- the last page that a chain may have was read to its end
 pub all_full : (k : Shape) (a b : Account) (s : Stop) (path : List ℕ) (rank : ℕ) (leaf : Bool) → AreFull a s.number path leaf rank → ((j : ℕ) → j < s.number → shown_of (visited b.tree.reached j) ≡ shown_of (visited a.tree.reached j))
-    → IsAt k b s path rank leaf (page_room leaf) → rank + 1 ≡ k.chain → (r : ℕ) → r < k.chain → WasFull b.tree.reached path leaf r
-all_full k a b s path rank leaf full same at end r less = was_full b (s.number + 1) path leaf r (let last = at.last in omega arith) (full_on k a b b s path rank leaf full same at (λ j _. refl) r (omega arith))
+    → IsAt k b s path rank leaf (page_room leaf) → rank + 1 ≡ k.chain → (r : ℕ) → r < k.chain → WasFull k b path leaf r
+all_full k a b s path rank leaf full same at end r less = was_full k b (s.number + 1) path leaf r (let last = at.last in omega arith) (full_on k a b b s path rank leaf full same at (λ j _. refl) r (omega arith))
 
 pub has_walked : (k : Shape) (a : Account) (s : Stop) (path : List ℕ) (rank : ℕ) (leaf : Bool) → IsAt k a s path rank leaf (page_room leaf) → rank + 1 ≡ k.chain → 2 ≤ k.chain → HasWalked a k.chain
 has_walked k a s path rank leaf at end several = record {

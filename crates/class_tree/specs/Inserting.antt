@@ -1,9 +1,10 @@
 -- What the insertion of a row does to its caller (this project's own).
-use Rattle.std.specs.Prelude.{◌≡◌, ℕ, ◌+◌, ◌/◌, ◌<◌, ◌≤◌, ◌⊎◌, Bool, true, false, List, [], ◌∷◌, ◌++◌, length}
+use Rattle.std.specs.Prelude.{◌≡◌, ◌≢◌, ℕ, ◌+◌, ◌/◌, ◌<◌, ◌≤◌, ◌⊎◌, Bool, true, false, List, [], ◌∷◌, ◌++◌, length}
 use mathlib.Core.Option.{some}
 use lib.ListN.{get_elem?}
 use Rattle.htss_defs.specs.declared.shape.Shape.{Shape}
 use Rattle.board_core.specs.declared.account.Account.{Account}
+use Rattle.board_core.specs.declared.account.View.{View}
 use Rattle.board_core.specs.declared.entry.Entry.{Entry}
 use Rattle.board_core.specs.declared.entry.Entry.TheVariants.{NoPage as PageWanted, ChainFull as ChainWasFull}
 use Rattle.board_core.specs.declared.loads.CodeLoad.{CodeLoad}
@@ -11,8 +12,10 @@ use Rattle.board_core.specs.declared.loads.Loads.{Loads}
 use Rattle.board_core.specs.declared.room.Row.{Row}
 use Rattle.board_core.specs.declared.tree.Reached.{Reached}
 use Rattle.board_core.specs.Each.{Each, In}
-use Rattle.board_core.specs.ClassTree.{IsBelow, page_room}
+use Rattle.board_core.specs.ClassTree.{IsBelow, slot_at, page_room}
 use Rattle.board_core.specs.KnownPages.{IsMate}
+use Rattle.board_core.specs.Words.{Parts}
+use Rattle.board_core.specs.Boards.{HasBoard}
 use Rattle.board_core.specs.Loaded.{HasOwn, HasCode}
 use Rattle.board_core.specs.MarkRule.{IsAmong}
 use Rattle.board_core.specs.Rows.{block_named, atom_named, own_codes}
@@ -96,19 +99,24 @@ pub record WantsPage (k : Shape) (c d : Seated) (row : Row) : Type 0 where
 abbrev pub IsNowhere : List Reached → List ℕ → ℕ → Type 0
 IsNowhere reached path code = (y : Reached) → IsMate reached path false y → In code y.slots → ⊥
 
--- the page of this rank in the chain of this path was reached, and all its slots are taken
-pub record WasFull (reached : List Reached) (path : List ℕ) (leaf : Bool) (rank : ℕ) : Type 0 where
+-- all slots of the page are taken, on each board that has the caller
+abbrev pub IsFullOn : Shape → Account → Reached → Type 0
+IsFullOn k a x = (p : Parts) (vs : List View) → HasBoard k p vs a → (i : ℕ) → i < page_room x.leaf → p.pages x.page (slot_at x.leaf i) ≢ 0
+
+-- the page of this rank in the chain of this path was reached, and is full. An inner page was read to its end
+pub record WasFull (k : Shape) (a : Account) (path : List ℕ) (leaf : Bool) (rank : ℕ) : Type 0 where
   pub page : Reached
-  pub mate : IsMate reached path leaf page
+  pub mate : IsMate a.tree.reached path leaf page
   pub rank_is : page.rank ≡ rank
-  pub full : length page.slots ≡ page_room leaf
+  pub full : IsFullOn k a page
+  pub read : leaf ≡ false → length page.slots ≡ 7
 
 -- each page that a chain may have was reached in a chain on the row's walk, and is full. In an inner chain none shows the row's code
 pub record HasFullChain (k : Shape) (a : Account) (row : Row) : Type 0 where
   pub path : List ℕ
   pub leaf : Bool
   pub below : IsBelow path (own_codes k a row)
-  pub full : (rank : ℕ) → rank < k.chain → WasFull a.tree.reached path leaf rank
+  pub full : (rank : ℕ) → rank < k.chain → WasFull k a path leaf rank
   pub none : leaf ≡ false → (code : ℕ) → IsBelow (path ++ code ∷ []) (own_codes k a row) → IsNowhere a.tree.reached path code
 
 -- a chain on the row's walk was full; that is answered before the caller is unpinned

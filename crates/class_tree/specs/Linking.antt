@@ -5,6 +5,7 @@ use lib.ListN.{get_elem?}
 use Rattle.htss_defs.specs.declared.shape.Shape.{Shape}
 use Rattle.board_core.specs.declared.account.Account.{Account}
 use Rattle.board_core.specs.declared.tree.Link.TheVariants.{Unread}
+use Rattle.board_core.specs.KnownPages.{place_of}
 use Rattle.board_core.specs.Loaded.{IsPage}
 use Rattle.board.specs.Seated.{Seated}
 use Rattle.class_tree.specs.declared.link.Step.{Step}
@@ -25,6 +26,19 @@ pub record IsNextLeaf (k : Shape) (c d : Seated) (s next : Stop) (depth rank : �
 abbrev pub GoesBehind : Shape → Seated → Seated → Stop → ℕ → ℕ → Target → Option Stop → Type 0
 GoesBehind k c d s depth rank t None = Places c d t.row
 GoesBehind k c d s depth rank t (Some next) = IsNextLeaf k c d s next depth rank t
+
+-- the next leaf of the chain, of which nothing is known. The leaf before it stands where it stood, whatever was read of it
+pub record IsPastLeaf (k : Shape) (c d : Seated) (s next : Stop) (depth rank : ℕ) (t : Target) : Type 0 where
+  pub goes : Goes s.number c d
+  pub place : place_of (here d.account s) ≡ place_of (here c.account s)
+  pub number : next.number ≡ s.number + 1
+  pub leaf : IsAtLeaf k d.account next depth (rank + 1) 0 t
+  pub linked : d.account.counts ≡ c.account.counts
+
+-- the row was placed in the leaf or behind it, or the walk goes on at the next one
+abbrev pub GoesPast : Shape → Seated → Seated → Stop → ℕ → ℕ → Target → Option Stop → Type 0
+GoesPast k c d s depth rank t None = Places c d t.row
+GoesPast k c d s depth rank t (Some next) = IsPastLeaf k c d s next depth rank t
 
 -- the row's code of this depth stands in this slot of an inner page that was reached, and its link may be loaded
 pub record IsPair (k : Shape) (a : Account) (x : Slot) (depth : ℕ) (t : Target) : Type 0 where

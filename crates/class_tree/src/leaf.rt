@@ -5,12 +5,12 @@ ghost use Rattle.board_core.specs.After.{after_slot, after_entry};
 ghost use Rattle.board_core.specs.Steps.{MayLink};
 ghost use Rattle.class_tree.specs.Inserting.{IsStocked};
 ghost use Rattle.class_tree.specs.Walking.{IsAtLeaf, Reads, Places, EntersRow};
-ghost use Rattle.class_tree.specs.Linking.{GoesBehind};
+ghost use Rattle.class_tree.specs.Linking.{GoesBehind, GoesPast};
 ghost use Rattle.class_tree.specs.Refusing.{WasRefused, Stops};
 
 use crate::insert::{InsertError, refuse_chain};
 use crate::walks::{Stop, Target, header_word, make_page, stop_at};
-use board::{Board, Caller, claim_entry, link_next_leaf, load_more, load_slot};
+use board::{Board, Caller, claim_entry, link_next_leaf, load_more, load_slot, pass_leaf};
 use page_pool::{NoPage, keep};
 
 // Reads the entry of this slot, or puts the row there: the answer is 0 where it did.
@@ -107,7 +107,40 @@ fn next_leaf(
     Ok(Some(stop_at(board, found, next)))
 }
 
-// Puts the row into the chain of leaves of the last depth that begins at this leaf.
+// The leaf behind this one of the last depth, by one load: a leaf that has a next one is full. Where there is none yet, the row is placed
+// in this leaf or behind it.
+fn go_past(
+    board: &Board,
+    caller: &mut Caller,
+    at: Stop,
+    rank: u32,
+    target: &Target,
+) -> Result<Option<Stop>, NoPage>
+    requires fits { IsOf board.now caller.old }
+    requires loader { IsLoader caller.old }
+    requires stocked { IsStocked caller.old }
+    requires leaf { IsAtLeaf board.now.shape caller.old.account at 5 rank 0 target.now }
+    requires few { MayLink caller.old.account 1 }
+    requires rank { (rank + 1 < board.now.shape.chain) × (rank + 1 < 2 ^ 16) }
+    requires number { at.number < 2 ^ 32 }
+    ensures of { IsOf board.now caller.new }
+    ensures loader { IsLoader caller.new }
+    ensures stocked { IsStocked caller.new }
+    ensures past { MatchResult result
+        (λ next. GoesPast board.now.shape caller.old caller.new at 5 rank target.now next)
+        (λ _. WasRefused board.now.shape caller.old caller.new 1) }
+{
+    let word = pass_leaf(board, caller, at.page, at.number);
+    if word != 0 {
+        return Ok(Some(stop_at(board, word, at.number + 1)));
+    }
+    if fill_leaf(board, caller, at, 5, rank, target) {
+        return Ok(None);
+    }
+    next_leaf(board, caller, at, rank, target)
+}
+
+// Puts the row into the chain of leaves of the last depth that begins at this leaf. It reads the entries of no leaf that has a next one.
 pub(crate) fn fill_chain(
     board: &Board,
     caller: &mut Caller,
@@ -128,10 +161,7 @@ pub(crate) fn fill_chain(
     let chain = board.shape().chain;
     let mut at = first;
     for rank in 0..chain - 1 {
-        if fill_leaf(board, caller, at, 5, rank, target) {
-            return Ok(());
-        }
-        match next_leaf(board, caller, at, rank, target) {
+        match go_past(board, caller, at, rank, target) {
             Ok(None) => return Ok(()),
             Ok(Some(next)) => at = next,
             Err(_) => return Err(InsertError::NoPage),

@@ -1,5 +1,5 @@
 -- A board that has the caller: what the rule says of the pages that it reached, and of the codes that it loaded.
-use Rattle.std.proofs.Common.{◌≡◌, ℕ, zero, suc, ◌^◌, ◌<◌, List, [], ◌∷◌, map, sym, refl, ap, ◌∙◌, subst, arith}
+use Rattle.std.proofs.Common.{◌≡◌, ℕ, zero, suc, ◌^◌, ◌<◌, ◌⊎◌, true, inl, inr, ⊎_elim, List, [], ◌∷◌, map, sym, refl, ap, ◌∙◌, subst, arith}
 use mathlib.Core.Option.{some, some-injective, some-ne-none}
 use lib.ListN.{get_elem?}
 use Rattle.htss_defs.specs.declared.shape.Shape.{Shape}
@@ -12,7 +12,7 @@ use Rattle.board_core.specs.Words.{Parts}
 use Rattle.board_core.specs.Histories.{block_at}
 use Rattle.board_core.specs.FactRule.{BlocksStand, AreOfBlocks}
 use Rattle.board_core.specs.Sheets.{sheet_of}
-use Rattle.board_core.specs.KnownPages.{KnowsPages}
+use Rattle.board_core.specs.KnownPages.{HasEarlier, KnowsPages}
 use Rattle.board_core.specs.KnownRule.{Knows}
 use Rattle.board_core.specs.OldRows.{IsOldRow}
 use Rattle.board_core.specs.Rows.{entry_word, code_of, codes_of, codes_in, IsPlaced}
@@ -30,7 +30,7 @@ no_old : (w : ℕ → ℕ → ℕ) (k : Shape) (p : Parts) (vs : List View) (m :
     → KnowsPages w (sheet_of p.pool.states vs) m codes old rs → KnowsPages w (sheet_of p.pool.states vs) m codes (λ r. ⊥) rs
 no_old w k p vs m codes old rs t = record {
   fits = t.fits;
-  chain = t.chain;
+  chain = λ j x at. ⊎_elim (λ (e : HasEarlier rs x). inl e) (λ (n : (x.leaf ≡ true) × ((r : ℕ) → old r → ⊥)). inr (n.0, λ r none. none)) (t.chain j x at);
   ends = λ j x at end r none. absurd none;
   absent = λ j x at i c a b r none. absurd none;
   turned = t.turned;

@@ -15,6 +15,7 @@ use Rattle.board_core.specs.Accounts.{account, view, with_me, gone, accounts_in,
 use Rattle.board_core.specs.RoomRule.{SomeAccount}
 use Rattle.board_core.specs.Truths.{entry_of}
 use Rattle.board_core.specs.After.{noted, after_take, after_free, after_answer, after_front, after_shows, after_ends, after_logged, after_event, after_shown, after_hear, after_made, after_word, after_code, after_head, after_mark, after_fact, after_epoch, after_advance, after_pin, after_unpin, after_pass, after_state, after_lost, after_page, after_retire, after_own, after_slot, after_link, after_more, after_inner, after_next, after_split, after_begun}
+use Rattle.board_core.specs.Passing.{after_passed, PassesLeaf}
 use Rattle.board_core.specs.Steps.{Mine, became, Exchange, Claim, after_claim, after_exchange, LoadsInstead, LoadsLink, LoadsSlot, LoadsMore}
 use Rattle.board_core.specs.Steps.Claim.{LeafBelow, EntryOf, CodeOf, LeafBehind, InnerBehind}
 use Rattle.board_core.specs.Met.{row_named}
@@ -99,6 +100,13 @@ slot_later j vs id s m found n at is = quiet_later vs id m n (after_slot m.0.me 
 link_later : (j i c : ℕ) → GoesLater (LoadsLink j i c)
 link_later j i c vs id s m found n at t = step_later vs id m n (after_link m.0.me j i c found t.leaf) at t.after (on_link m.0.me j i c found t.leaf)
 
+on_passed : (a : Account) (j n : ℕ) → GoesOn a (after_passed a j n)
+on_passed a j zero = on_same a (after_passed a j zero) refl refl
+on_passed a j (suc n) = on_same a (after_passed a j (suc n)) refl refl
+
+pass_later : (j : ℕ) → GoesLater (PassesLeaf j)
+pass_later j vs id s m found n at t = step_later vs id m n (after_passed m.0.me j found) at t.after (on_passed m.0.me j found)
+
 more_later : (j : ℕ) → GoesLater (LoadsMore j)
 more_later j vs id s m found n at t = step_later vs id m n (after_more m.0.me j found) at t.after (on_next_page m.0.me j found)
 
@@ -148,6 +156,7 @@ page_steps = record {
   load_slot = slot_later;
   load_link = link_later;
   load_more = more_later;
+  pass_leaf = pass_later;
   claim = λ claim vs id s m found n at t. dite (ℕ_discrete found 0)
       (λ won. step_later vs id m n (after_claim m.0.me claim) at (t.won won) (on_claim m.0.me claim))
       (λ lost. lost_later claim vs id s m found n at (t.lost lost));

@@ -14,6 +14,7 @@ use Rattle.htss_defs.specs.declared.shape.Shape.{Shape}
 use Rattle.board_core.specs.Accounts.{account, view, with_me, keeping, gone, made_by}
 use Rattle.board_core.specs.After.{after_made, after_hear}
 use Rattle.board_core.specs.Steps.{Mine, Exchange, Claim, Takes, Frees, Answers, LoadsFront, Stores, Shows, Ends, Logs, ShowsEvent, LoadsLog, LoadsHead, LoadsMark, LoadsCode, LoadsFact, LoadsEpoch, Advances, Pins, Unpins, Passes, LoadsState, TakesPage, Retires, StoresOwn, LoadsHeader, LoadsSlot, LoadsLink, LoadsMore, ClaimsWord, ExchangesLeaf, LoadsOwnCode, BeginsRow, LoadsOwnHead}
+use Rattle.board_core.specs.Passing.{PassesLeaf}
 use Rattle.board_core.specs.Met.{LoadsEntry, LoadsMetHead, LoadsMetCode}
 use Rattle.pub_log.specs.Later.{IsLater}
 
@@ -53,6 +54,7 @@ pub record PageStepsGoLater : Type 0 where
   pub load_slot : (reached : ℕ) → GoesLater (LoadsSlot reached)
   pub load_link : (reached index code : ℕ) → GoesLater (LoadsLink reached index code)
   pub load_more : (reached : ℕ) → GoesLater (LoadsMore reached)
+  pub pass_leaf : (reached : ℕ) → GoesLater (PassesLeaf reached)
   pub claim : (claim : Claim) → GoesLater (ClaimsWord claim)
   pub exchange_leaf : (exchange : Exchange) → GoesLater (ExchangesLeaf exchange)
   pub load_own_code : (row : Row) (code : ℕ) → GoesLater (LoadsOwnCode row code)

@@ -1,6 +1,6 @@
 use Rattle.board.specs.Seated.{IsLoader}
 use Rattle.class_tree.specs.Inserting.{IsStocked}
-use Rattle.class_tree.proofs.Leaves.{IsAlongLeaves}
+use Rattle.class_tree.proofs.Passed.{IsAlongLeaves}
 use Rattle.class_tree.proofs.leaf.fill_chain.Given as goal
 
 abbrev pub invariant-loop-rank : goal.invariant-loop-rank
