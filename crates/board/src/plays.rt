@@ -247,6 +247,14 @@ impl<K: Keeps> Play<(), View> for StoreOwn<K> {
     ghost then = { StoresOwn K.page K.place };
 }
 
+pub(crate) struct BeginWalk;
+
+impl Play<(), View> for BeginWalk {
+    ghost use Rattle.board_core.specs.Steps.{BeginsWalk};
+
+    ghost then = { BeginsWalk };
+}
+
 pub(crate) struct LoadHeader<R> {
     page: PhantomData<R>,
 }

@@ -6,7 +6,7 @@ ghost use Rattle.board_core.specs.Loaded.{IsPage, IsVisit};
 ghost use Rattle.board_core.specs.Boards.{SomeBoard};
 ghost use Rattle.board_core.specs.Steps.{MayStoreOwn, MayLoadSlot, MayLoadLink, MayLoadMore, Claim, CodeOf, MayClaim, after_claim, MayLinkLeaf, MayClaimEntry, MayClaimCode, MayLinkMoreLeaf, MayLinkInner, MayLink};
 ghost use Rattle.board_core.specs.CountRule.{most_linked};
-ghost use Rattle.board_core.specs.After.{visited, after_own, after_slot, after_link, after_more, after_linked, after_next, after_entry};
+ghost use Rattle.board_core.specs.After.{visited, after_own, after_walk, after_slot, after_link, after_more, after_linked, after_next, after_entry};
 ghost use Rattle.board_core.specs.Sheets.{owns};
 ghost use Rattle.board_core.specs.MarkRule.{IsAmong};
 ghost use Rattle.board_core.specs.Rows.{entry_word, code_of, words_of, HasRow};
@@ -22,7 +22,7 @@ ghost use Rattle.board.specs.Seated.{IsOf, with_account};
 use crate::blocks::Coded;
 use crate::places::{code_place, page_place};
 use crate::plays::{
-    BeginRow, ClaimWord, LoadHeader, LoadLink, LoadMore, LoadOwnCode, LoadOwnHead, LoadSlot,
+    BeginRow, BeginWalk, ClaimWord, LoadHeader, LoadLink, LoadMore, LoadOwnCode, LoadOwnHead, LoadSlot,
     StoreOwn,
 };
 use crate::{Board, Caller};
@@ -87,6 +87,15 @@ pub fn store_own_word(board: &Board, caller: &mut Caller, page: u32, place: u8, 
     ensures { caller.new ≡ with_account caller.old (after_own caller.old.account page place word) }
 {
     store_own_of::<Brand>(board, caller, page, place, word);
+}
+
+/// Begins a walk at the root: loads its header, and sets aside what was reached. The events that were seen at the pin stay.
+pub fn begin_walk(board: &Board, caller: &mut Caller)
+    requires fits { IsOf board.now caller.old }
+    ensures { caller.new ≡ with_account caller.old (after_walk caller.old.account) }
+{
+    let at = page_place(board.shape, 1, 0);
+    board.table.shared.load::<BeginWalk>(&mut caller.seat, at);
 }
 
 fn load_header_of<R: Reaches>(board: &Board, caller: &mut Caller, page: u32, number: u64) -> u64

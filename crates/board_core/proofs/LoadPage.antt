@@ -24,13 +24,13 @@ use Rattle.board_core.specs.KnownRule.{Knows}
 use Rattle.board_core.specs.OldRows.{IsOldRow}
 use Rattle.board_core.specs.Loaded.{IsPage, page_word, IsVisit}
 use Rattle.board_core.specs.Holds.{Rule, Holds}
-use Rattle.board_core.specs.After.{visited, with_reached, with_slot, with_link, with_more, led, next_of, after_slot, after_link, after_more}
-use Rattle.board_core.specs.Steps.{Mine, MayLoadSlot, MayLoadLink, MayLoadMore, LoadsHeader, LoadsSlot, LoadsLink, LoadsMore}
+use Rattle.board_core.specs.After.{visited, with_reached, with_slot, with_link, with_more, led, next_of, root, after_walk, after_slot, after_link, after_more}
+use Rattle.board_core.specs.Steps.{Mine, MayLoadSlot, MayLoadLink, MayLoadMore, BeginsWalk, LoadsHeader, LoadsSlot, LoadsLink, LoadsMore}
 use Rattle.board_core.proofs.Everyone.{mine}
 use Rattle.board_core.proofs.PoolTree.{pool_reaches}
 use Rattle.board_core.proofs.OwnFrame.{own_same}
 use Rattle.board_core.proofs.RowFrame.{rows_same, placed_begun}
-use Rattle.board_core.proofs.TreeFrame.{tree_told}
+use Rattle.board_core.proofs.TreeFrame.{tree_told, knows_root}
 use Rattle.board_core.proofs.PageLoads.{at_visit, law_header, law_slot, law_link_none, law_link, link_linked, law_more_none, law_more, next_linked}
 use Rattle.board_core.proofs.Stepped.{still}
 use Rattle.board_core.proofs.Treed.{by_tree, page_at, busy_page}
@@ -91,6 +91,11 @@ module _ (k : Shape) (p : Parts) (h : List Event) (vs : List View) (id : ℕ) (v
   pub same_held : (j : ℕ) (y : Reached) → j < length v.me.tree.reached → y.page ≡ (visited v.me.tree.reached j).page → y.leaf ≡ (visited v.me.tree.reached j).leaf
       → (i q : ℕ) → get_elem? (held_in (set v.me.tree.reached j y)) i ≡ some q → IsAmong (held_in v.me.tree.reached) q
   same_held j y within page leaf i q e = (i, sym (ap (λ l. get_elem? l i) (held_set v.me.tree.reached j (visited v.me.tree.reached j) y (at_visit v.me.tree.reached j within) page leaf)) ∙ e)
+
+  -- what was reached is set aside. The events that were seen at the pin stay
+  pub begin_walk : Rule k p h (set vs id (with_me v (after_walk v.me)))
+  begin_walk = knows_more (root ∷ []) (λ i q e. absurd (some-ne-none q (sym e)))
+      (knows_root p.pages (sheet_of p.pool.states vs) r.tree.place (codes_in k p.regions) (IsPlaced vs) (IsOldRow k p.regions p.log.slots) r.tree.tree (record v.me.tree { reached = root ∷ [] }) refl known_here.olds)
 
   pub load_header : (j : ℕ) → j < length v.me.tree.reached → p.pages (visited v.me.tree.reached j).page 0 ≡ header_of (place_of (visited v.me.tree.reached j))
   load_header j within = law_header p.pages (sheet_of p.pool.states vs) r.tree.place (codes_in k p.regions) (IsPlaced vs) (IsOldRow k p.regions p.log.slots) r.tree.tree v.me.tree known_here j within
@@ -181,6 +186,15 @@ header_allowed k slots id j at_word m is visit s h _ at _ =
       still k s at_word id m.1 m.0 m.0.me h (subst (λ (l : List View). Rule k p (history_of k p) l) (sym (set_again s.views id m.0 at)) h.rule),
       record { same = refl; header = sym same ∙ load_header k p (history_of k p) s.views id m.0 h.rule at j visit.reached; shallow = inner_high k p (history_of k p) s.views id m.0 h.rule at j visit.reached },
     )
+
+pub walk_allowed : (k : Shape) (slots id at_word : ℕ) (m : Mine) → Allows (Holds k) slots id m at_word (λ n. n) (BeginsWalk (step slots at_word 0 0 none) m)
+walk_allowed k slots id at_word m s h _ at _ = (
+  with_me m.0 (after_walk m.0.me),
+  keeps,
+  tt,
+  still k s at_word id m.1 m.0 (after_walk m.0.me) h (begin_walk k (parts_of k s.words) (history_of k (parts_of k s.words)) s.views id m.0 h.rule at),
+  refl,
+)
 
 pub slot_allowed : (k : Shape) (slots id j at_word x : ℕ) (m : Mine) → at_word ≡ page_word k (visited m.0.me.tree.reached j).page (slot_at (visited m.0.me.tree.reached j).leaf (length (visited m.0.me.tree.reached j).slots)) → MayLoadSlot k m.0.me j
     → Allows (Holds k) slots id m at_word (λ n. n) (LoadsSlot j (step slots at_word 0 x none) m)

@@ -206,6 +206,10 @@ visited rs j = get_or rs j root
 abbrev pub with_reached : Account → List Reached → Account
 with_reached a rs = record a { tree = record a.tree { reached = rs } }
 
+-- a walk begins: what was reached is set aside, and the root is reached
+abbrev pub after_walk : Account → Account
+after_walk a = with_reached a (root ∷ [])
+
 -- the next code or entry of a page was loaded: 0 is its end
 abbrev pub with_slot : ℕ → Reached → Reached
 with_slot zero x = record x { zero = true }

@@ -36,7 +36,7 @@ use Rattle.board_core.specs.StateRule.{StatesStand}
 use Rattle.board_core.specs.ChainRule.{IsToldChain}
 use Rattle.board_core.specs.EpochRule.{IsPast, last_epoch}
 use Rattle.board_core.specs.LogWord.{kind_in, publication_word, target_in, withdrawal_word}
-use Rattle.board_core.specs.After.{visited, after_begun, after_linked, after_inner, after_split, after_entry, after_own, after_slot, after_link, after_more, after_epoch, after_advance, after_pin, after_unpin, after_pass, after_state, after_lost, after_page, after_retire, after_code, after_fact, after_head, after_mark, after_word, noted, after_take, after_free, after_answer, after_front, after_shows, after_ends, after_logged, after_event, after_shown, after_next}
+use Rattle.board_core.specs.After.{visited, after_begun, after_linked, after_inner, after_split, after_entry, after_own, after_walk, after_slot, after_link, after_more, after_epoch, after_advance, after_pin, after_unpin, after_pass, after_state, after_lost, after_page, after_retire, after_code, after_fact, after_head, after_mark, after_word, noted, after_take, after_free, after_answer, after_front, after_shows, after_ends, after_logged, after_event, after_shown, after_next}
 use Rattle.board_core.specs.PublishedRule.{AllPlaced}
 use Rattle.board_core.specs.CountRule.{most_linked, most_own, insertions_of}
 use Rattle.board_core.specs.Swept.{IsTrueSwept}
@@ -444,6 +444,10 @@ pub record LoadsHeader (j : ℕ) (s : Step (Unit {0})) (m : Mine) (found : ℕ) 
   pub same : n ≡ m
   pub header : found ≡ header_of (place_of (visited m.0.me.tree.reached j))
   pub shallow : (visited m.0.me.tree.reached j).leaf ≡ false → length (visited m.0.me.tree.reached j).path < 5
+
+-- the root's header was loaded, whose value is not used, and a walk begins
+abbrev pub BeginsWalk : Step (Unit {0}) → Mine → ℕ → Mine → Type 0
+BeginsWalk s m found n = n ≡ became m (after_walk m.0.me)
 
 abbrev pub LoadsSlot : ℕ → Step (Unit {0}) → Mine → ℕ → Mine → Type 0
 LoadsSlot j s m found n = n ≡ became m (after_slot m.0.me j found)

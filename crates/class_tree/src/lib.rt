@@ -14,5 +14,6 @@ mod taken;
 mod walks;
 
 pub use board_core::Row;
+pub use descent::{RowSink, descend};
 pub use insert::{InsertError, insert_row};
 pub use law::law_of_chains;

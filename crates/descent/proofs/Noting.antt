@@ -1,5 +1,5 @@
 -- What a descent gave is true of each board that has the caller, and what the caller has once it is noted.
-use Rattle.std.proofs.Common.{◌≡◌, ℕ, zero, suc, ◌^◌, ◌<◌, ◌≤◌, List, [], ◌∷◌, ◌++◌, map, sym, refl, ap, ◌∙◌, subst}
+use Rattle.std.proofs.Common.{◌≡◌, ℕ, zero, suc, ◌^◌, ◌<◌, ◌≤◌, List, [], ◌∷◌, ◌++◌, map, drop, length, sym, refl, ap, ◌∙◌, subst}
 use mathlib.Core.Option.{some, some-injective, some-ne-none}
 use lib.ListN.{get_elem?}
 use Rattle.htss_defs.specs.declared.shape.Shape.{Shape}
@@ -26,7 +26,7 @@ use Rattle.board_core.proofs.RowFrame.{block_back, small_atom}
 use Rattle.board_core.proofs.LoadSealed.{sealed_in_table}
 use Rattle.board.specs.Seated.{Seated, with_account}
 use Rattle.env_cover.specs.Reach.{CoversCode}
-use Rattle.descent.specs.Seats.{CodeLoad, load_of, seat_of, named}
+use Rattle.descent.specs.Seats.{CodeLoad, Seat, load_of, seat_of, named}
 use Rattle.descent.specs.Different.{AreDifferent}
 use Rattle.descent.specs.Standing.{OnlyLoads}
 use Rattle.descent.specs.Descended.{IsDescended}
@@ -132,22 +132,56 @@ has_swept k need c m d given p vs b count here only after done = record {
 -- ---- as the call asks
 
 abbrev Means : Shape → Need → Seated → Seated → List Row → List Row → ℕ → Type 0
-Means k need c m old given count = (p : Parts) (vs : List View) → HasBoard k p vs m.account
-    → IsDescended (codes_in k p.regions) (IsPlaced vs) (IsOldRow k p.regions p.log.slots c.account.tree.front) (CoversCode need) (seat_of c.account).loads (seat_of m.account) old given count
+Means k need c m past hs count = (p : Parts) (vs : List View) → HasBoard k p vs m.account
+    → IsDescended (codes_in k p.regions) (IsPlaced vs) (IsOldRow k p.regions p.log.slots c.account.tree.front) (CoversCode need) (seat_of c.account).loads (seat_of m.account) past hs count
 
-module _ (k : Shape) (need : Need) (c m : Seated) (old given : List Row) (count : ℕ) (empty : old ≡ []) (only : OnlyLoads c m) (means : Means k need c m old given count) where
+drop_past : (xs ys : List Row) → drop (length xs) (xs ++ ys) ≡ ys
+drop_past [] ys = refl
+drop_past (x ∷ xs) ys = drop_past xs ys
+
+-- what was given behind what the sink had
+given_past : (codes : ℕ → List ℕ) (put old : ℕ → Type 0) (covers : ℕ → ℕ → Type 0) (before : List CodeLoad) (b : Seat) (past hs : List Row) (count : ℕ)
+    → IsDescended codes put old covers before b past hs count → IsDescended codes put old covers before b [] (drop (length past) hs) count
+given_past codes put old covers before b past hs count d = record {
+  swept = d.swept;
+  given = d.given;
+  given_are = ap (drop (length past)) d.given_are ∙ drop_past past (named d.given);
+  differ = d.differ;
+  loads = d.loads;
+  loads_are = d.loads_are;
+  placed = d.placed;
+  loaded = d.loaded;
+  covering = d.covering;
+  all_old = d.all_old;
+  told = d.told;
+  pruned = d.pruned;
+  pruned_anyway = d.pruned_anyway;
+  rows = d.rows;
+}
+
+-- past: what the sink had
+module _ (k : Shape) (need : Need) (c m : Seated) (past had hs : List Row) (count : ℕ) (same : had ≡ past) (only : OnlyLoads c m) (means : Means k need c m had hs count) where
+  abbrev given : List Row
+  given = drop (length past) hs
+
   behind : (p : Parts) (vs : List View) → HasBoard k p vs m.account → c.account.tree.front ≤ p.log.front
   behind p vs b =
       let pinned : b.view.me.tree.front ≤ p.log.front = pin_here p.log.front vs b.id b.view b.rule.pins b.at in
       subst (λ (f : ℕ). f ≤ p.log.front) (ap (λ (a : Account). a.tree.front) b.me ∙ ap (λ (z : Seated). z.account.tree.front) only.same) pinned
 
+  whole : Means k need c m past hs count
+  whole = subst (λ (l : List Row). Means k need c m l hs count) same means
+
   done : (p : Parts) (vs : List View) → HasBoard k p vs m.account
       → IsDescended (codes_in k p.regions) (IsPlaced vs) (IsOldRow k p.regions p.log.slots c.account.tree.front) (CoversCode need) (seat_of c.account).loads (seat_of m.account) [] given count
-  done p vs b = subst (λ (l : List Row). IsDescended (codes_in k p.regions) (IsPlaced vs) (IsOldRow k p.regions p.log.slots c.account.tree.front) (CoversCode need) (seat_of c.account).loads (seat_of m.account) l given count) empty (means p vs b)
+  done p vs b = given_past (codes_in k p.regions) (IsPlaced vs) (IsOldRow k p.regions p.log.slots c.account.tree.front) (CoversCode need) (seat_of c.account).loads (seat_of m.account) past hs count (whole p vs b)
 
   pub may_note : MaySweep k m.account need m.account.tree.front given
   may_note p vs b = subst (λ (f : ℕ). IsSweptOn k p vs (Swept need f given)) (sym (ap (λ (z : Seated). z.account.tree.front) only.same))
       (swept_true k need c m given c.account.tree.front p vs b (behind p vs b) count (done p vs b))
 
-  pub noted : (d : Seated) → SomeBoard k m.account → d ≡ with_account m (after_answer m.account (Swept need m.account.tree.front given ∷ [])) → HasSwept k need c d given count
-  noted d (p, vs, b) after = has_swept k need c m d given p vs b count (behind p vs b) only after (done p vs b)
+  pub noted : (d : Seated) → SomeBoard k m.account → d ≡ with_account m (after_answer m.account (Swept need m.account.tree.front given ∷ [])) → (gs : List Row) × (hs ≡ past ++ gs) × HasSwept k need c d gs count
+  noted d (p, vs, b) after =
+      let is = (whole p vs b).given_are in
+      let given_is : given ≡ named (whole p vs b).given = ap (drop (length past)) is ∙ drop_past past (named (whole p vs b).given) in
+      (given, is ∙ ap (λ l. past ++ l) (sym given_is), has_swept k need c m d given p vs b count (behind p vs b) only after (done p vs b))

@@ -6,7 +6,7 @@ use Rattle.board_core.specs.declared.loads.CodeLoad.{CodeLoad as BoardLoad}
 use Rattle.board_core.specs.declared.room.Row.{Row}
 use Rattle.board_core.specs.Rows.{entry_word}
 use Rattle.board_core.specs.Met.{row_named}
-use Rattle.board_core.specs.After.{after_slot, after_link, after_more, after_head, after_code}
+use Rattle.board_core.specs.After.{after_walk, after_slot, after_link, after_more, after_head, after_code}
 use Rattle.board.specs.Seated.{Place, Seated, IsOf, with_account}
 use Rattle.descent.specs.Seats.{load, load_of, seat_of, with_load}
 use Rattle.descent.specs.Standing.{Stands, rest, OnlyLoads}
@@ -32,6 +32,9 @@ only_step c d a after same codes heads = subst (OnlyLoads c) (sym after) record 
   heads = [];
   heads_are = heads ∙ sym (append-nil c.account.loads.heads);
 }
+
+pub only_walk : (c d : Seated) → d ≡ with_account c (after_walk c.account) → OnlyLoads c d
+only_walk c d after = only_step c d (after_walk c.account) after refl refl refl
 
 pub only_slot : (c d : Seated) (j n : ℕ) → d ≡ with_account c (after_slot c.account j n) → OnlyLoads c d
 only_slot c d j n after = only_step c d (after_slot c.account j n) after refl refl refl

@@ -14,7 +14,8 @@ use Rattle.board_core.specs.declared.room.Row.{Row}
 use Rattle.descent.specs.Seats.{CodeLoad, Seat, load, named}
 use Rattle.descent.specs.Visits.{visited}
 use Rattle.descent.specs.Different.{AreDifferent}
-use Rattle.descent.specs.Descended.{IsCutOff, MayBe}
+use Rattle.descent.specs.Sweep.{AllCover}
+use Rattle.descent.specs.Descended.{MayBe}
 use Rattle.descent.specs.Walks.{Met, rows_of, IsMet, IsGood, IsTold, Parts, Comes, Below, GivenSoFar, PageTried, ChainTried}
 use Rattle.descent.proofs.Lists.{named_append, at_none, in_right, in_split, at_visit, different_append}
 use Rattle.descent.proofs.Covers.{cover_all}
@@ -166,17 +167,12 @@ module _ (chain : ℕ) (codes : ℕ → List ℕ) (put old : ℕ → Type 0) (co
   told : Each (IsTold codes) q.so_far.loads
   told i l e = let h = subst (λ (ls : List CodeLoad). In l ls) (sym q.so_far.loads_are) (in_right a.loads q.so_far.loads l (i, e)) in may.told h.0 l h.1
 
-  pub cut_off : IsCutOff codes covers gs hs
-  cut_off = record {
-    given = rows_of q.so_far.mets;
-    given_are = q.so_far.given_are;
-    differ = q.so_far.differ;
-    covering = λ i r e. cover_all covers (codes r) 0 (λ j c at.
-        let t = met_of q.so_far.mets r (i, e) in
-        let w = met_below chain codes put old covers b.reached may.moment t.0 (q.so_far.are_met t.1.0 t.0 t.1.1) in
-        let five : length (codes r) ≡ 5 = subst (λ (x : ℕ). length (codes x) ≡ 5) t.2 w.1 in
-        let within = inside (codes r) j c at in
-        let g = q.so_far.good i r e j (omega arith) in
-        let same : g.0 ≡ c = some-injective g.0 c (sym (told g.1.0 (load r j g.0) g.1.1) ∙ at) in
-        subst (λ (z : ℕ × ℕ). covers z.0 z.1) (λ k. ((let n : j ≡ 0 + j = omega arith in n) k, same k)) g.2);
-  }
+  pub covering : Each (λ r. AllCover covers 0 (codes r)) (rows_of q.so_far.mets)
+  covering i r e = cover_all covers (codes r) 0 (λ j c at.
+      let t = met_of q.so_far.mets r (i, e) in
+      let w = met_below chain codes put old covers b.reached may.moment t.0 (q.so_far.are_met t.1.0 t.0 t.1.1) in
+      let five : length (codes r) ≡ 5 = subst (λ (x : ℕ). length (codes x) ≡ 5) t.2 w.1 in
+      let within = inside (codes r) j c at in
+      let g = q.so_far.good i r e j (omega arith) in
+      let same : g.0 ≡ c = some-injective g.0 c (sym (told g.1.0 (load r j g.0) g.1.1) ∙ at) in
+      subst (λ (z : ℕ × ℕ). covers z.0 z.1) (λ k. ((let n : j ≡ 0 + j = omega arith in n) k, same k)) g.2)

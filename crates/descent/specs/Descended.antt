@@ -1,13 +1,20 @@
 -- What a whole descent promises.
 use Rattle.std.specs.Prelude.{◌≡◌, ℕ, List, ◌++◌, length}
+use Rattle.htss_defs.specs.declared.shape.Shape.{Shape}
+use Rattle.board_core.specs.declared.account.View.{View}
 use Rattle.board_core.specs.Each.{Each, In}
+use Rattle.board_core.specs.Words.{Parts}
+use Rattle.board_core.specs.Rows.{codes_in}
+use Rattle.board_core.specs.Boards.{HasBoard}
+use Rattle.board.specs.Seated.{Seated}
 use Rattle.descent.specs.Sweep.{AllCover, IsSwept}
 use Rattle.board_core.specs.declared.room.Row.{Row}
-use Rattle.descent.specs.Seats.{CodeLoad, Seat, named}
+use Rattle.descent.specs.Seats.{CodeLoad, Seat, seat_of, named}
 use Rattle.descent.specs.Different.{AreDifferent}
 use Rattle.descent.specs.Pruned.{IsPruned, IsLoaded, CountsLoaded}
 use Rattle.descent.specs.Moment.{Moment}
-use Rattle.descent.specs.Walks.{IsTold}
+use Rattle.descent.specs.Walks.{IsTold, IsGood}
+use Rattle.descent.specs.Standing.{OnlyLoads}
 
 -- a board may be by what the caller knows: the rule holds of it with what was read of pages, and it has the codes that were loaded
 pub record MayBe (chain : ℕ) (codes : ℕ → List ℕ) (put old : ℕ → Type 0) (s : Seat) : Type 0 where
@@ -32,9 +39,14 @@ pub record IsDescended (codes : ℕ → List ℕ) (put old : ℕ → Type 0) (co
   pub pruned_anyway : (any : ℕ → List ℕ) → ((r : ℕ) → IsLoaded loads r → length (any r) ≡ 5) → Each (IsTold any) loads → IsPruned any covers loads
   pub rows : CountsLoaded loads count
 
--- where the sink could take no more: the rows given so far cover, and none was given twice
-pub record IsCutOff (codes : ℕ → List ℕ) (covers : ℕ → ℕ → Type 0) (gs hs : List Row) : Type 0 where
+-- the sink could take no more: it was given these rows, none twice. Five codes of each were loaded, which all cover; and so its codes do,
+-- whatever the board is
+pub record HasCut (k : Shape) (covers : ℕ → ℕ → Type 0) (c d : Seated) (gs hs : List Row) : Type 0 where
+  pub only : OnlyLoads c d
   pub given : List ℕ
   pub given_are : hs ≡ gs ++ named given
   pub differ : AreDifferent given
-  pub covering : Each (λ r. AllCover covers 0 (codes r)) given
+  pub loads : List CodeLoad
+  pub loads_are : (seat_of d.account).loads ≡ (seat_of c.account).loads ++ loads
+  pub good : Each (IsGood covers loads) given
+  pub covering : (p : Parts) (vs : List View) → HasBoard k p vs d.account → Each (λ r. AllCover covers 0 (codes_in k p.regions r)) given

@@ -1,12 +1,13 @@
 // The descent for a need, whose rows are noted.
-ghost use Rattle.std.specs.Prelude.{◌≡◌, ℕ, ◌<◌, List, [], ◌∷◌, IfOk, IfErr};
+ghost use Rattle.std.specs.Prelude.{◌≡◌, ℕ, ◌<◌, List, [], ◌∷◌, ◌++◌, IfOk, IfErr};
+ghost use Rattle.board_core.specs.declared.room.Row.{Row};
 ghost use Rattle.board_core.specs.declared.entry.Entry.TheVariants.{Swept};
-ghost use Rattle.board_core.specs.After.{root, after_answer};
+ghost use Rattle.board_core.specs.After.{after_answer};
 ghost use Rattle.board_core.specs.Boards.{SomeBoard};
 ghost use Rattle.board_core.specs.Sweeps.{MaySweep};
 ghost use Rattle.board.specs.Seated.{IsOf, with_account};
 ghost use Rattle.env_cover.specs.Reach.{CoversCode};
-ghost use Rattle.descent.specs.Standing.{OnlyLoads};
+ghost use Rattle.descent.specs.Descended.{HasCut};
 ghost use Rattle.descent.specs.Answered.{HasSwept};
 
 use crate::rows::{Asks, RowSink};
@@ -37,9 +38,29 @@ fn note_with<W: Sweeps, S: RowSink>(board: &Board, caller: &mut Caller, _need: &
     note_swept::<W>(board, caller);
 }
 
-/// Gives an empty sink the rows whose codes cover the need, none twice, among them each covering row of the blocks that the events show
-/// which the caller had seen at its pin, and notes them. The caller was just pinned. It answers how many rows it loaded. Where the sink
-/// can take no more, it has got some of these, and nothing is noted.
+// Gives the rows to a sink that has these, and notes what it gave.
+fn give_noted<S: RowSink>(
+    board: &Board,
+    caller: &mut Caller,
+    need: &Need,
+    sink: &mut S,
+) -> Result<u64, OutOfMemory>
+    ghost past: { List Row }
+    requires fits { IsOf board.now caller.old }
+    requires pinned { 0 < caller.old.account.pool.announced }
+    requires past { S.given sink.old ≡ past }
+    ensures swept { IfOk result (λ n. (given : List Row) × (S.given sink.new ≡ past ++ given) × HasSwept board.now.shape need.now caller.old caller.new given n) }
+    ensures board { IfOk result (λ _. SomeBoard board.now.shape caller.new.account) }
+    ensures cut { IfErr result (λ _. HasCut board.now.shape (CoversCode need.now) caller.old caller.new (S.given sink.old) (S.given sink.new)) }
+{
+    let rows = sweep(board, caller, need, sink)?;
+    note_with::<Brand, S>(board, caller, need, sink);
+    Ok(rows)
+}
+
+/// Gives the sink the rows whose codes cover the need, none twice, among them each covering row of the blocks that the events show
+/// which the caller had seen at its pin, and notes them. It answers how many rows it loaded. What the caller had reached before is set
+/// aside. Where the sink can take no more, it has got some rows that cover, none twice, and nothing is noted.
 pub fn descend<S: RowSink>(
     board: &Board,
     caller: &mut Caller,
@@ -48,13 +69,9 @@ pub fn descend<S: RowSink>(
 ) -> Result<u64, OutOfMemory>
     requires fits { IsOf board.now caller.old }
     requires pinned { 0 < caller.old.account.pool.announced }
-    requires fresh { caller.old.account.tree.reached ≡ root ∷ [] }
-    requires empty { S.given sink.old ≡ [] }
-    ensures swept { IfOk result (λ n. HasSwept board.now.shape need.now caller.old caller.new (S.given sink.new) n) }
+    ensures swept { IfOk result (λ n. (given : List Row) × (S.given sink.new ≡ S.given sink.old ++ given) × HasSwept board.now.shape need.now caller.old caller.new given n) }
     ensures board { IfOk result (λ _. SomeBoard board.now.shape caller.new.account) }
-    ensures cut { IfErr result (λ _. OnlyLoads caller.old caller.new) }
+    ensures cut { IfErr result (λ _. HasCut board.now.shape (CoversCode need.now) caller.old caller.new (S.given sink.old) (S.given sink.new)) }
 {
-    let rows = sweep(board, caller, need, sink)?;
-    note_with::<Brand, S>(board, caller, need, sink);
-    Ok(rows)
+    give_noted(board, caller, need, sink)
 }

@@ -4,7 +4,6 @@ ghost use mathlib.Core.Option.{some};
 ghost use lib.ListN.{get_elem?};
 ghost use Rattle.board_core.specs.declared.account.View.{View};
 ghost use Rattle.board_core.specs.Words.{Parts};
-ghost use Rattle.board_core.specs.After.{root};
 ghost use Rattle.board_core.specs.Loaded.{IsPage};
 ghost use Rattle.board_core.specs.Rows.{codes_in, IsPlaced};
 ghost use Rattle.board_core.specs.OldRows.{IsOldRow};
@@ -14,11 +13,11 @@ ghost use Rattle.descent.specs.Seats.{seat_of};
 ghost use Rattle.descent.specs.Visits.{visited};
 ghost use Rattle.descent.specs.Standing.{Stands, OnlyLoads};
 ghost use Rattle.descent.specs.Walks.{IsBegun, PageRead, ChainRead, Followed, LeafAt, PageTried, ChainTried, FollowTried};
-ghost use Rattle.descent.specs.Descended.{IsDescended, IsCutOff};
+ghost use Rattle.descent.specs.Descended.{IsDescended, HasCut};
 
 use crate::loads::{Visit, header, link, more, slot};
 use crate::rows::{Asks, RowSink, offer};
-use board::{Board, Caller};
+use board::{Board, Caller, begin_walk};
 use htss_defs::OutOfMemory;
 
 // What one page gave: how many rows were loaded, and whether a slot was found 0.
@@ -211,8 +210,8 @@ fn chain<N: Asks, S: RowSink>(
 }
 
 /// Gives each row whose codes all cover the need, none twice, among them each of the blocks that the events show which the caller had
-/// seen at its pin. It answers how many rows it loaded. The caller was just pinned. Where the sink can take no more, it has got rows
-/// that cover, none twice. A descent loads each word of the pages on its way once, and at most the first word of the block and five
+/// seen at its pin. It answers how many rows it loaded. What the caller had reached before is set aside. Where the sink can take no more,
+/// it has got rows that cover, none twice. A descent loads each word of the pages on its way once, and at most the first word of the block and five
 /// codes for each entry that it reads. It takes what memory the sink takes, and does not wait.
 pub fn sweep<N: Asks, S: RowSink>(
     board: &Board,
@@ -222,14 +221,13 @@ pub fn sweep<N: Asks, S: RowSink>(
 ) -> Result<u64, OutOfMemory>
     requires fits { IsOf board.now caller.old }
     requires pinned { 0 < caller.old.account.pool.announced }
-    requires fresh { caller.old.account.tree.reached ≡ root ∷ [] }
     ensures only { OnlyLoads caller.old caller.new }
     ensures means { IfOk result (λ n. (p : Parts) (vs : List View) → HasBoard board.now.shape p vs caller.new.account
         → IsDescended (codes_in board.now.shape p.regions) (IsPlaced vs) (IsOldRow board.now.shape p.regions p.log.slots caller.old.account.tree.front) (N.covers need.now) (seat_of caller.old.account).loads (seat_of caller.new.account) (S.given sink.old) (S.given sink.new) n) }
-    ensures cut { IfErr result (λ _. (p : Parts) (vs : List View) → HasBoard board.now.shape p vs caller.new.account
-        → IsCutOff (codes_in board.now.shape p.regions) (N.covers need.now) (S.given sink.old) (S.given sink.new)) }
+    ensures cut { IfErr result (λ _. HasCut board.now.shape (N.covers need.now) caller.old caller.new (S.given sink.old) (S.given sink.new)) }
 {
     let _limits = board.shape();
+    begin_walk(board, caller);
     let mut count = 1;
     let first = Visit { page: 1, number: 0 };
     chain(board, caller, need, first, false, 0, sink, &mut count)

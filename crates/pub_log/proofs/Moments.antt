@@ -14,7 +14,7 @@ use Rattle.board_core.specs.declared.entry.Noted.{Noted}
 use Rattle.board_core.specs.Accounts.{account, view, with_me, gone, accounts_in, made_by, is_loader}
 use Rattle.board_core.specs.RoomRule.{SomeAccount}
 use Rattle.board_core.specs.Truths.{entry_of}
-use Rattle.board_core.specs.After.{noted, after_take, after_free, after_answer, after_front, after_shows, after_ends, after_logged, after_event, after_shown, after_hear, after_made, after_word, after_code, after_head, after_mark, after_fact, after_epoch, after_advance, after_pin, after_unpin, after_pass, after_state, after_lost, after_page, after_retire, after_own, after_slot, after_link, after_more, after_inner, after_next, after_split, after_begun}
+use Rattle.board_core.specs.After.{noted, after_take, after_free, after_answer, after_front, after_shows, after_ends, after_logged, after_event, after_shown, after_hear, after_made, after_word, after_code, after_head, after_mark, after_fact, after_epoch, after_walk, after_advance, after_pin, after_unpin, after_pass, after_state, after_lost, after_page, after_retire, after_own, after_slot, after_link, after_more, after_inner, after_next, after_split, after_begun}
 use Rattle.board_core.specs.Passing.{after_passed, PassesLeaf}
 use Rattle.board_core.specs.Steps.{Mine, became, Exchange, Claim, after_claim, after_exchange, LoadsInstead, LoadsLink, LoadsSlot, LoadsMore}
 use Rattle.board_core.specs.Steps.Claim.{LeafBelow, EntryOf, CodeOf, LeafBehind, InnerBehind}
@@ -152,6 +152,7 @@ page_steps = record {
       (λ lost. quiet_later vs id m n (after_lost m.0.me page found) at (t.lost lost) refl refl);
   retire = λ page vs id s m found n at is. quiet_later vs id m n (after_retire m.0.me page) at is refl refl;
   store_own = λ page place vs id s m found n at is. quiet_later vs id m n (after_own m.0.me page place s.first) at is refl refl;
+  begin_walk = λ vs id s m found n at is. quiet_later vs id m n (after_walk m.0.me) at is refl refl;
   load_header = λ j vs id s m found n at t. same_later vs id m n at t.same;
   load_slot = slot_later;
   load_link = link_later;

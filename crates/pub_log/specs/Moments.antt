@@ -13,7 +13,7 @@ use Rattle.htss_defs.specs.declared.history.Event.{Event}
 use Rattle.htss_defs.specs.declared.shape.Shape.{Shape}
 use Rattle.board_core.specs.Accounts.{account, view, with_me, keeping, gone, made_by}
 use Rattle.board_core.specs.After.{after_made, after_hear}
-use Rattle.board_core.specs.Steps.{Mine, Exchange, Claim, Takes, Frees, Answers, LoadsFront, Stores, Shows, Ends, Logs, ShowsEvent, LoadsLog, LoadsHead, LoadsMark, LoadsCode, LoadsFact, LoadsEpoch, Advances, Pins, Unpins, Passes, LoadsState, TakesPage, Retires, StoresOwn, LoadsHeader, LoadsSlot, LoadsLink, LoadsMore, ClaimsWord, ExchangesLeaf, LoadsOwnCode, BeginsRow, LoadsOwnHead}
+use Rattle.board_core.specs.Steps.{Mine, Exchange, Claim, Takes, Frees, Answers, LoadsFront, Stores, Shows, Ends, Logs, ShowsEvent, LoadsLog, LoadsHead, LoadsMark, LoadsCode, LoadsFact, LoadsEpoch, Advances, Pins, Unpins, Passes, LoadsState, TakesPage, Retires, StoresOwn, BeginsWalk, LoadsHeader, LoadsSlot, LoadsLink, LoadsMore, ClaimsWord, ExchangesLeaf, LoadsOwnCode, BeginsRow, LoadsOwnHead}
 use Rattle.board_core.specs.Passing.{PassesLeaf}
 use Rattle.board_core.specs.Met.{LoadsEntry, LoadsMetHead, LoadsMetCode}
 use Rattle.pub_log.specs.Later.{IsLater}
@@ -50,6 +50,7 @@ pub record PageStepsGoLater : Type 0 where
   pub take_page : (page : ℕ) → GoesLater (TakesPage page)
   pub retire : (page : ℕ) → GoesLater (Retires page)
   pub store_own : (page place : ℕ) → GoesLater (StoresOwn page place)
+  pub begin_walk : GoesLater BeginsWalk
   pub load_header : (reached : ℕ) → GoesLater (LoadsHeader reached)
   pub load_slot : (reached : ℕ) → GoesLater (LoadsSlot reached)
   pub load_link : (reached index code : ℕ) → GoesLater (LoadsLink reached index code)

@@ -40,6 +40,10 @@ pub on_ok : {F H : ℕ → Type 0} (r : Result ℕ OutOfMemory) → IfOk r F →
 on_ok (Ok n) ok f = f n ok
 on_ok (Err e) ok f = tt
 
+-- an empty list has what it was given
+pub all_given : (past now given : List Row) → past ≡ [] → now ≡ past ++ given → now ≡ given
+all_given past now given none is = is ∙ ap (λ (l : List Row). l ++ given) none
+
 -- the caller just pinned
 abbrev pinned : Account → ℕ → Account
 pinned a e = after_pin (after_epoch a e) e

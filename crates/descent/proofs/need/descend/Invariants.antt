@@ -1,4 +1,4 @@
 use Rattle.descent.proofs.need.descend.Given as goal
 
-abbrev pub ghosts-note_with : goal.ghosts-note_with
-ghosts-note_with g a = record { need = a._need.now; front = a.caller.now.account.tree.front; rows = g.S.RowSink.given a._sink.now }
+abbrev pub ghost-give_noted : goal.ghost-give_noted
+ghost-give_noted g a = g.S.RowSink.given a.sink.now
