@@ -11,6 +11,8 @@ pub mod Kept
 pub mod Ruled
 pub mod Told
 pub mod Printing
+pub mod Begun
+pub mod Enough
 pub mod LogLines
 pub mod Reported
 pub mod Chained

@@ -39,7 +39,7 @@ prints_both caller xs ys =
     ap printed (filter-append (λ (line : Line). is_same line.caller caller) xs ys)
     ∙ flat_map-append (λ (line : Line). tells line.caller line.answer) (lines_by caller xs) (lines_by caller ys)
 
-prints_own : (line : Line) → prints line.caller (line ∷ []) ≡ tells line.caller line.answer
+pub prints_own : (line : Line) → prints line.caller (line ∷ []) ≡ tells line.caller line.answer
 prints_own line = ap (λ (b : Bool). printed (cond b (line ∷ []) [])) (same_caller line.caller) ∙ append-nil (tells line.caller line.answer)
 
 prints_none : (caller : Caller) (line : Line) → ¬ (line.caller ≡ caller) → prints caller (line ∷ []) ≡ []
@@ -105,7 +105,7 @@ module _ (k : Shape) where
 
   -- ---- the groups
 
-  printed_groups : (files : List (ℕ × List ℕ)) (budget : ℕ) → IsShape k → (groups : List Group) (number : ℕ) (before after : List Account) (front : ℕ) (done : List Done) (lines : List Line) → AreGroupsDone k files budget number groups before after front done
+  pub printed_groups : (files : List (ℕ × List ℕ)) (budget : ℕ) → IsShape k → (groups : List Group) (number : ℕ) (before after : List Account) (front : ℕ) (done : List Done) (lines : List Line) → AreGroupsDone k files budget number groups before after front done
       → HavePrinted k before lines → HavePrinted k after (lines ++ flat_map done_lines done)
   printed_groups files budget shape [] number before after front done lines (same, none, _) all =
       let here : HavePrinted k after lines = subst (λ (l : List Account). HavePrinted k l lines) (sym same) all in
@@ -118,7 +118,7 @@ module _ (k : Shape) where
       subst (λ (l : List Line). HavePrinted k after l)
       (append_assoc lines (flat_map done_lines first) (flat_map done_lines rest) ∙ ap (λ (l : List Line). lines ++ l) (sym (flat_map-append done_lines first rest) ∙ ap (flat_map done_lines) (sym parts))) last
 
-  printed_new : (before : List Account) → AreNew k before → HavePrinted k before []
+  pub printed_new : (before : List Account) → AreNew k before → HavePrinted k before []
   printed_new before new caller is a there = ap (λ (x : Account). entries_in x) (new.1 (place_of k caller) a there)
 
   -- ---- there are as many accounts as before

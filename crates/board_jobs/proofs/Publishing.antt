@@ -31,7 +31,7 @@ use Rattle.class_tree.specs.declared.insert.InsertError.TheVariants as insert
 use Rattle.class_tree.specs.Inserting.{IsStocked}
 use Rattle.loader.specs.declared.stages.StageError.{StageError}
 use Rattle.loader.specs.declared.stages.StageError.TheVariants as stage
-use Rattle.loader.specs.Stages.{left_in, after_block, staging, HasRows, HasStaged, IsFull, IsRefused, HasRoomBut}
+use Rattle.loader.specs.Stages.{left_in, rows_of, after_block, staging, HasRows, HasStaged, IsFull, IsRefused, HasRoomBut}
 use Rattle.pub_log.specs.Locking.{after_publication}
 use Rattle.board_core.specs.Answers.{answers_in}
 use Rattle.board_jobs.specs.Answering.{HasRoomFor}
@@ -45,6 +45,9 @@ block_size one = omega arith
 abbrev named : Staging → NamedMol
 named s = record { name = s.name; mol = s.mol }
 
+length_rows : (block count : ℕ) → length (rows_of block count) ≡ count
+length_rows block count = length_first (λ i. record { block = block; atom = i + 1 }) count
+
 -- ---- the account once the block is written, and rows of it were inserted
 
 pub record IsPrepared (a d : Account) (s : Staging) (es : List Entry) : Type 0 where
@@ -53,21 +56,24 @@ pub record IsPrepared (a d : Account) (s : Staging) (es : List Entry) : Type 0 w
   pub unpinned : d.pool.announced ≡ 0
   pub noted_are : answers_in d.entries ≡ answers_in a.entries ++ noted d.loads es
   pub used : length d.room.used ≡ length a.room.used + block_words (named s)
+  pub begun : length d.tree.begun ≤ length a.tree.begun + length s.mol.atoms
   pub grows : Grows a d
 
-prepared : (a d : Account) (s : Staging) (block begun placed : ℕ) (es : List Entry) → HasRows (after_block a s) d block begun placed es → answers_in d.entries ≡ answers_in a.entries ++ noted d.loads es → IsPrepared a d s es
-prepared a d s block begun placed es rows told =
+prepared : (a d : Account) (s : Staging) (block begun placed : ℕ) (es : List Entry) → begun ≤ length s.mol.atoms → HasRows (after_block a s) d block begun placed es → answers_in d.entries ≡ answers_in a.entries ++ noted d.loads es → IsPrepared a d s es
+prepared a d s block begun placed es within rows told =
+    let more : length d.tree.begun ≡ length a.tree.begun + begun = ap length rows.rows_begun ∙ length-append a.tree.begun (rows_of block begun) ∙ ap (λ n. length a.tree.begun + n) (length_rows block begun) in
     let words = first_of (written s.name s.mol) (size_of s.name s.mol) in record {
       who = rows.who;
       log = rows.log;
       unpinned = rows.unpinned;
       noted_are = told;
       used = ap (λ (r : RoomAccount). length r.used) rows.room ∙ (length-append a.room.used words ∙ ap (λ n. length a.room.used + n) (length_first (written s.name s.mol) (size_of s.name s.mol) ∙ block_size (named s)));
+      begun = omega (arith, more, within);
       grows = grows_trans a (after_block a s) d (grows_quiet a (after_block a s) (omega arith) refl (λ j x there. there)) rows.grows;
     }
 
 staged_is : (a d : Account) (s : Staging) → HasStaged a d s → IsPrepared a d s []
-staged_is a d s rows = prepared a d s s.block (length s.mol.atoms) (length s.mol.atoms) [] rows (ap answers_in (rows.entries ∙ append-nil a.entries) ∙ sym (append-nil (answers_in a.entries)))
+staged_is a d s rows = prepared a d s s.block (length s.mol.atoms) (length s.mol.atoms) [] (omega arith) rows (ap answers_in (rows.entries ∙ append-nil a.entries) ∙ sym (append-nil (answers_in a.entries)))
 
 -- the caller may go on
 prepared_work : (b : Place) (c d : Seated) (s : Staging) (es : List Entry) → IsAtWork b c → IsOf b d → IsStocked d → length c.account.room.used + size_of s.name s.mol ≤ b.shape.room → IsPrepared c.account d.account s es → IsAtWork b d
@@ -116,6 +122,7 @@ full-answers k a d s front is later full room c who =
       used = is.used;
       says = (full, has_room k a s room);
       rows = tt;
+      begun = is.begun;
       grows = grows_trans a (locked d front) b (grows_locked a d s front is later) (grows_quiet (locked d front) b (omega arith) refl (entries_added (locked d front) b (noted (locked d front).loads (LogFull front ∷ [])) refl));
     }
 
@@ -137,6 +144,7 @@ published-answers k a d s front is later room c who =
       used = is.used;
       says = has_room k a s room;
       rows = tt;
+      begun = is.begun;
       grows = grows_trans a (locked d front) b (grows_locked a d s front is later) (grows_quiet (locked d front) b (omega arith) refl (λ j x there. at_longer (d.entries ++ noted b.loads (told ∷ [])) [] j x (at_longer d.entries (noted b.loads (told ∷ [])) j x there)));
     }
 
@@ -228,6 +236,7 @@ room-answers k a s left need room full c who =
       used = omega arith;
       says = (full.need_is ∙ block_size (named s), less, omega (arith, left_is, room));
       rows = tt;
+      begun = omega arith;
       grows = grows_quiet a b (omega arith) refl (entries_added a b (noted a.loads (DataFull left need ∷ [])) refl);
     }
 
@@ -242,6 +251,7 @@ page-answers k a d s room is c who = let seen : d.log.seen ≡ a.log.seen = ap (
   used = is.used;
   says = has_room k a s room;
   rows = tt;
+  begun = is.begun;
   grows = is.grows;
 }
 
@@ -256,6 +266,7 @@ chain-answers k a d s pages all room is c who = let seen : d.log.seen ≡ a.log.
   used = is.used;
   says = (all, has_room k a s room);
   rows = tt;
+  begun = is.begun;
   grows = is.grows;
 }
 
@@ -271,13 +282,13 @@ taken-refused b c d place name mol stage.NoPage work stopped room =
     let s = staging b.shape c.account name mol in record {
       fate = no_page;
       line_is = refl;
-      answers = page-answers b.shape c.account d.account s room (prepared c.account d.account s s.block (stopped.count + 1) stopped.count (NoPage ∷ []) stopped.left (told_one c.account d.account NoPage refl stopped.left.entries));
+      answers = page-answers b.shape c.account d.account s room (prepared c.account d.account s s.block (stopped.count + 1) stopped.count (NoPage ∷ []) stopped.within stopped.left (told_one c.account d.account NoPage refl stopped.left.entries));
     }
 taken-refused b c d place name mol (stage.ChainFull pages) work stopped room =
     let s = staging b.shape c.account name mol in record {
       fate = chain_full pages;
       line_is = refl;
-      answers = chain-answers b.shape c.account d.account s pages stopped.refused.all room (prepared c.account d.account s s.block (stopped.count + 1) stopped.count (ChainFull pages ∷ []) stopped.left (told_one c.account d.account (ChainFull pages) refl stopped.left.entries));
+      answers = chain-answers b.shape c.account d.account s pages stopped.refused.all room (prepared c.account d.account s s.block (stopped.count + 1) stopped.count (ChainFull pages ∷ []) stopped.within stopped.left (told_one c.account d.account (ChainFull pages) refl stopped.left.entries));
     }
 
 refused_work : (b : Place) (c d : Seated) (name : List ℕ) (mol : Molecule) (e : StageError) → IsAtWork b c → IsOf b d → IsStocked d → IsRefused b.shape c d (staging b.shape c.account name mol) e → HasRoomBut b.shape c.account (staging b.shape c.account name mol) e
@@ -286,11 +297,11 @@ refused_work b c d name mol (stage.DataFull left need) work of stocked (full, is
     (work_after b c d (after_answer c.account (DataFull left need ∷ [])) is work (record { holding = work.ready.free; pool = refl; who = refl; room = work.room }), ap (λ (x : Seated). x.account.who) is)
 refused_work b c d name mol stage.NoPage work of stocked stopped room =
     let s = staging b.shape c.account name mol in
-    let is = prepared c.account d.account s s.block (stopped.count + 1) stopped.count (NoPage ∷ []) stopped.left (told_one c.account d.account NoPage refl stopped.left.entries) in
+    let is = prepared c.account d.account s s.block (stopped.count + 1) stopped.count (NoPage ∷ []) stopped.within stopped.left (told_one c.account d.account NoPage refl stopped.left.entries) in
     (prepared_work b c d s (NoPage ∷ []) work of stocked room is, is.who)
 refused_work b c d name mol (stage.ChainFull pages) work of stocked stopped room =
     let s = staging b.shape c.account name mol in
-    let is = prepared c.account d.account s s.block (stopped.count + 1) stopped.count (ChainFull pages ∷ []) stopped.left (told_one c.account d.account (ChainFull pages) refl stopped.left.entries) in
+    let is = prepared c.account d.account s s.block (stopped.count + 1) stopped.count (ChainFull pages ∷ []) stopped.within stopped.left (told_one c.account d.account (ChainFull pages) refl stopped.left.entries) in
     (prepared_work b c d s (ChainFull pages ∷ []) work of stocked room is, is.who)
 
 pub on-refused : (b : Place) (c d : Seated) (place : ℕ) (name : List ℕ) (mol : Molecule) (e : StageError) → IsAtWork b c → IsOf b d → IsStocked d → IsRefused b.shape c d (staging b.shape c.account name mol) e → HasRoomBut b.shape c.account (staging b.shape c.account name mol) e

@@ -36,6 +36,9 @@ seen_in a b front es s = ap (λ l. l.seen) s.log
 used_in : (a b : Account) (front : ℕ) (es : List Entry) → Searched a b front es → length b.room.used ≡ length a.room.used + 0
 used_in a b front es s = let same : length b.room.used ≡ length a.room.used = ap (λ r. length r.used) s.room in omega arith
 
+begun_in : (a b : Account) (front : ℕ) (es : List Entry) → Searched a b front es → length b.tree.begun ≤ length a.tree.begun + 0
+begun_in a b front es s = let same : length b.tree.begun ≡ length a.tree.begun = ap (λ t. length t.begun) s.tree in omega arith
+
 hits-answers : (k : Shape) (a b : Account) (asked : QueryGraph) (budget front : ℕ) (hits : List Hit) (rows records : ℕ) → a.log.seen ≤ front
     → Searched a b front (Answered asked budget front (reply.Hits hits) ∷ []) → Whatever k b front (λ h. Counts asked h records)
     → LoadsPruned asked a b rows → Answers k a b (to_search (hits_at asked budget front hits rows records))
@@ -51,6 +54,7 @@ hits-answers k a b asked budget front hits rows records later s counted rowed c 
       used = used_in a b front (told ∷ []) s;
       says = counted;
       rows = rowed;
+      begun = begun_in a b front (told ∷ []) s;
       grows = s.grown;
     }
 
@@ -68,6 +72,7 @@ over-answers k a b asked budget front later s rowed c who =
       used = used_in a b front (told ∷ []) s;
       says = tt;
       rows = rowed;
+      begun = begun_in a b front (told ∷ []) s;
       grows = s.grown;
     }
 
@@ -84,6 +89,7 @@ quiet-answers k a b line code front later s c who =
       used = used_in a b front [] s;
       says = tt;
       rows = tt;
+      begun = begun_in a b front [] s;
       grows = s.grown;
     }
 
@@ -98,6 +104,7 @@ same-answers k a line code c who = record {
   used = omega arith;
   says = tt;
   rows = tt;
+  begun = omega arith;
   grows = grows_same a;
 }
 

@@ -36,6 +36,10 @@ grows_called a b front at es later called =
 used_called : (a b : Account) (front at : ℕ) (es : List Entry) → IsCalled (at_lock a front) b at es → length b.room.used ≡ length a.room.used + 0
 used_called a b front at es called = let same : length b.room.used ≡ length a.room.used = ap (λ r. length r.used) called.room in omega arith
 
+-- and no row was begun
+begun_called : (a b : Account) (front at : ℕ) (es : List Entry) → IsCalled (at_lock a front) b at es → length b.tree.begun ≤ length a.tree.begun + 0
+begun_called a b front at es called = let same : length b.tree.begun ≡ length a.tree.begun = ap (λ t. length t.begun) called.tree in omega arith
+
 at-answers : (k : Shape) (a b : Account) (number front event : ℕ) → a.log.seen ≤ front → event ≡ front + 1
     → IsCalled (at_lock a front) b event (Withdrawn event (Withdraw (number_in a.who) number) ∷ []) → Answers k a b (to_withdrawal number (line.At event))
 at-answers k a b number front event later next called c who =
@@ -50,6 +54,7 @@ at-answers k a b number front event later next called c who =
       used = used_called a b front event (told ∷ []) called;
       says = tt;
       rows = tt;
+      begun = begun_called a b front event (told ∷ []) called;
       grows = grows_called a b front event (told ∷ []) later called;
     }
 
@@ -67,6 +72,7 @@ unknown-answers k a b number front at later same called c who =
       used = used_called a b front front (told ∷ []) called;
       says = tt;
       rows = tt;
+      begun = begun_called a b front front (told ∷ []) called;
       grows = grows_called a b front front (told ∷ []) later called;
     }
 
@@ -84,6 +90,7 @@ gone-answers k a b number front at later within called c who =
       used = used_called a b front front (told ∷ []) called;
       says = tt;
       rows = tt;
+      begun = begun_called a b front front (told ∷ []) called;
       grows = grows_called a b front front (told ∷ []) later called;
     }
 
@@ -101,6 +108,7 @@ full-answers k a b number front at later (same, full, opened) called c who =
       used = used_called a b front front (told ∷ []) called;
       says = (same ∙ full, λ p may. subst (λ n. IsOpen (take n (history_of k p)) number) (sym same) (opened p may));
       rows = tt;
+      begun = begun_called a b front front (told ∷ []) called;
       grows = grows_called a b front front (told ∷ []) later called;
     }
 

@@ -20,8 +20,10 @@ use Rattle.board_core.specs.Steps.{MayBe}
 use Rattle.board_core.specs.Loaded.{Grows}
 use Rattle.board_core.specs.After.{noted}
 use Rattle.board_core.specs.Answers.{answers_in}
+use Rattle.board_core.specs.CountRule.{insertions_of}
 use Rattle.searcher.specs.Finding.{LoadsPruned}
 use Rattle.board_jobs.specs.Telling.{tells}
+use Rattle.board_jobs.specs.Begun.{atoms_taken}
 
 abbrev pub who_of : Caller → Who
 who_of (loader number) = Loader number
@@ -73,7 +75,8 @@ LoadsRows a b (to_search (hits_at asked budget front hits rows records)) = Loads
 LoadsRows a b (to_search (over_at asked budget front)) = (rows : ℕ) × LoadsPruned asked a b rows
 
 -- one answer: it adds the entries that it prints; its marks are seen afterwards; its own event comes after all that was seen before,
--- and its front is no shorter. Each of its entries has the lengths that the lists of loads had at its end
+-- and its front is no shorter. Each of its entries has the lengths that the lists of loads had at its end. At most one insertion is
+-- begun for each atom of a record
 pub record IsAnswered (k : Shape) (caller : Caller) (a b : Account) (answer : Answer) : Type 0 where
   pub who : b.who ≡ a.who
   pub noted_are : answers_in b.entries ≡ answers_in a.entries ++ noted b.loads (tells caller answer)
@@ -84,6 +87,7 @@ pub record IsAnswered (k : Shape) (caller : Caller) (a b : Account) (answer : An
   pub used : length b.room.used ≡ length a.room.used + words_used answer
   pub says : Says k (length a.room.used) b answer
   pub rows : LoadsRows a b answer
+  pub begun : insertions_of b ≤ insertions_of a + atoms_taken answer
   pub grows : Grows a b
 
 -- answers of one caller, one after the other

@@ -1,4 +1,6 @@
 pub mod Telling
+pub mod Begun
+pub mod Enough
 pub mod Answering
 pub mod Groups
 pub mod Ends

@@ -11,6 +11,8 @@ mod copies;
 #[cfg(test)]
 mod crowds;
 #[cfg(test)]
+mod enough;
+#[cfg(test)]
 mod loads;
 #[cfg(test)]
 mod pages;
