@@ -1,4 +1,4 @@
--- A line tells that no page was left only where the pages are few.
+-- A line tells that no page was left only where the pages are few, and that a chain was full only where many rows were loaded.
 use Rattle.std.proofs.Common.{◌≡◌, ℕ, zero, suc, ◌+◌, ◌*◌, ◌-◌, ◌<◌, ◌≤◌, List, [], ◌∷◌, ◌++◌, length, map, refl, sym, ap, subst, ◌∙◌, All, arith, append_assoc}
 use Rattle.std.specs.List.{flat_map}
 use Rattle.std.proofs.lemmas.Grind.{flat_map-append}
@@ -10,20 +10,20 @@ use Rattle.htss_defs.specs.declared.record.NamedMol.{NamedMol}
 use Rattle.htss_defs.specs.declared.shape.Shape.{Shape}
 use Rattle.htss_defs.specs.Shapes.{IsShape}
 use Rattle.script_text.specs.declared.script.Group.{Group}
-use Rattle.report_rules.specs.Answers.{Answer, answers_of, to_record, taken, no_page}
+use Rattle.report_rules.specs.Answers.{Answer, answers_of, to_record, taken, no_page, chain_full}
 use Rattle.report_rules.specs.Dealing.{Caller, loader, searcher}
 use Rattle.report_rules.specs.Reports.{Done, done_lines}
 use Rattle.report_rules.specs.Rules.{Line}
 use Rattle.board_core.specs.declared.account.Account.{Account}
 use Rattle.board_core.specs.declared.entry.Entry.{Entry}
-use Rattle.board_core.specs.declared.entry.Entry.TheVariants.{NoPage}
+use Rattle.board_core.specs.declared.entry.Entry.TheVariants.{NoPage, ChainFull}
 use Rattle.board_core.specs.declared.entry.Noted.{Noted}
 use Rattle.board_core.specs.Answers.{answers_in, is_answer}
 use Rattle.board_core.specs.CountRule.{pages_for}
 use Rattle.board_core.specs.Each.{Each, In}
-use Rattle.board.specs.Closed.{begun_in, AreFewPages}
+use Rattle.board.specs.Closed.{begun_in, AreFewPages, AreFewChains}
 use Rattle.board_jobs.specs.Begun.{atoms_loaded}
-use Rattle.board_jobs.specs.Enough.{TellsNoPage, ArePagesEnough}
+use Rattle.board_jobs.specs.Enough.{TellsNoPage, ArePagesEnough, TellsChainFull, AreChainsEnough}
 use Rattle.board_jobs.specs.Groups.{place_of, AreGroupsDone, AreNew}
 use Rattle.board_jobs.specs.Telling.{entries_in, tells}
 use Rattle.board_jobs.proofs.Begun.{few_begun}
@@ -104,4 +104,11 @@ module _ (k : Shape) (files : List (ℕ × List ℕ)) (budget : ℕ) (groups : L
       (λ earlier later line split (one, is).
       let most : k.pages ≤ pages_for (begun_in middle) k.loaders =
       of_printed (λ e. e ≡ NoPage → k.pages ≤ pages_for (begun_in middle) k.loaders) line NoPage earlier later split (ap (λ (answer : Answer). tells line.caller answer) is) few refl in
+      let begun = few_begun k files budget groups before middle front done new are in omega (arith, most, begun))
+
+  pub chains_enough : AreFewChains k middle → AreChainsEnough k (flat_map done_lines done)
+  chains_enough few = all_from (λ line. TellsChainFull line → 7 * k.chain ≤ atoms_loaded (flat_map done_lines done)) [] (flat_map done_lines done)
+      (λ earlier later line split (one, pages, is).
+      let most : 7 * k.chain ≤ begun_in middle =
+      of_printed (λ e. (n : ℕ) → e ≡ ChainFull n → 7 * k.chain ≤ begun_in middle) line (ChainFull pages) earlier later split (ap (λ (answer : Answer). tells line.caller answer) is) few pages refl in
       let begun = few_begun k files budget groups before middle front done new are in omega (arith, most, begun))

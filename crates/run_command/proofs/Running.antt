@@ -33,7 +33,7 @@ use Rattle.board_core.specs.LogRule as log
 use Rattle.board_core.specs.Steps.{MayBe}
 use Rattle.board_core.specs.Truths.{IsTrueStory}
 use Rattle.board_core.specs.Words.{Parts}
-use Rattle.board.specs.Closed.{AreFewPages, Closing, HasAllLoaders, IsSettled, IsShown}
+use Rattle.board.specs.Closed.{AreFewChains, AreFewPages, Closing, HasAllLoaders, IsSettled, IsShown}
 use Rattle.board.specs.Seated.{IsAtRest, Place, Seated, account_of}
 use Rattle.board.specs.Seated as seated
 use Rattle.board_jobs.specs.Groups.{AreNew}
@@ -47,7 +47,7 @@ use Rattle.board_jobs.proofs.LogLines.{log_lines}
 use Rattle.board_jobs.proofs.Reported.{known_end, reported}
 use Rattle.board_jobs.proofs.Ruled.{roomed, ruled}
 use Rattle.board_jobs.proofs.Begun.{all_loaders}
-use Rattle.board_jobs.proofs.Enough.{pages_enough}
+use Rattle.board_jobs.proofs.Enough.{chains_enough, pages_enough}
 use Rattle.board_jobs.proofs.Told.{all_dealt}
 use Rattle.script_run.specs.declared.gate.Worker.{Worker}
 use Rattle.script_run.specs.Working.{AreCallers}
@@ -263,13 +263,20 @@ pub record IsClosedWith (shape : Shape) (accounts : List Account) (last : Closin
   pub end : HasEnd shape accounts last.history
   pub settled : IsSettled last
 
--- one of its callers was told that no page is left only where the pages are few
-few_at_end : (shape : Shape) (accounts : List Account) (last : Closing) → IsClosedWith shape accounts last → AreFewPages shape accounts
-few_at_end shape accounts last closed =
+-- all of its loaders are there, so its refusals for want of pages have the insertions that they need
+loaders_there : (shape : Shape) (accounts : List Account) (last : Closing) → IsClosedWith shape accounts last → HasAllLoaders last
+loaders_there shape accounts last closed =
     let end = closed.end.end in
-    let all : HasAllLoaders last = subst (λ (l : List Account). sum_of (λ a. is_loader a.who) l ≡ last.shape.loaders) (sym closed.accounts_are)
-    (subst (λ (k : Shape). sum_of (λ (a : Account). is_loader a.who) accounts ≡ k.loaders) (sym closed.shape_is) (all_loaders shape accounts end.count end.callers)) in
-    subst (λ (l : List Account). AreFewPages shape l) closed.accounts_are (subst (λ (k : Shape). AreFewPages k last.accounts) closed.shape_is (closed.settled.few all))
+    subst (λ (l : List Account). sum_of (λ a. is_loader a.who) l ≡ last.shape.loaders) (sym closed.accounts_are)
+    (subst (λ (k : Shape). sum_of (λ (a : Account). is_loader a.who) accounts ≡ k.loaders) (sym closed.shape_is) (all_loaders shape accounts end.count end.callers))
+
+few_pages : (shape : Shape) (accounts : List Account) (last : Closing) → IsClosedWith shape accounts last → AreFewPages shape accounts
+few_pages shape accounts last closed =
+    subst (λ (l : List Account). AreFewPages shape l) closed.accounts_are (subst (λ (k : Shape). AreFewPages k last.accounts) closed.shape_is (closed.settled.few (loaders_there shape accounts last closed)))
+
+few_chains : (shape : Shape) (accounts : List Account) (last : Closing) → IsClosedWith shape accounts last → AreFewChains shape accounts
+few_chains shape accounts last closed =
+    subst (λ (l : List Account). AreFewChains shape l) closed.accounts_are (subst (λ (k : Shape). AreFewChains k last.accounts) closed.shape_is (closed.settled.full (loaders_there shape accounts last closed)))
 
 -- all groups are done, and the log is written
 pub run_is : (told : Option (List File)) (script : List ℕ) (groups : List Group) (shape : Shape) (budget : ℕ) (accounts : List Account) (text text_now : List ℕ) (last : Closing) → IsShape shape → IsClosedWith shape accounts last → ScriptWasRead told script groups → text_now ≡ text ++ log_text (map log_line last.history) → HasDone told groups shape budget accounts text → IsRunOf told script shape budget text_now last
@@ -320,7 +327,8 @@ run_is told script groups shape budget accounts text text_now last limits closed
             ∙ sym (report_is shape budget (map done_block done.done) last.history);
       };
       rooms = roomed shape done.files budget groups done.new accounts accounts done.front done.done words limits done.are_new done.are_done (gone_here shape accounts) end;
-      pages = pages_enough shape done.files budget groups done.new accounts done.front done.done limits done.are_new done.are_done (few_at_end shape accounts last closed);
+      pages = pages_enough shape done.files budget groups done.new accounts done.front done.done limits done.are_new done.are_done (few_pages shape accounts last closed);
+      chains = chains_enough shape done.files budget groups done.new accounts done.front done.done limits done.are_new done.are_done (few_chains shape accounts last closed);
       same = refl;
       events = refl;
       shape_is = closed.shape_is;

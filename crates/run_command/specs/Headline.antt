@@ -11,7 +11,7 @@ use Rattle.board_core.specs.Accounts.{caller_after}
 use Rattle.board.specs.Closed.{Closing, IsSettled}
 use Rattle.board_jobs.specs.Ends.{caller_at}
 use Rattle.board_jobs.specs.Rooms.{HaveHadRoom}
-use Rattle.board_jobs.specs.Enough.{ArePagesEnough}
+use Rattle.board_jobs.specs.Enough.{ArePagesEnough, AreChainsEnough}
 use Rattle.board_jobs.specs.Printed.{lines_by, printed}
 use Rattle.board_jobs.specs.Telling.{entries_in}
 use Rattle.outside.specs.Files.{File}
@@ -26,12 +26,13 @@ pub record HasPrinted (shape : Shape) (done : List Done) (i : ℕ) (a : Account)
 
 -- the text is a run's; each record that took words of its loader's region had room there; the history of the report's rules is that of
 -- the board that was closed, and the text prints its log; and each caller's account, which is true of that history, of the room that it
--- has left and of the pages, has what the caller's lines print, and nothing else. A line tells that no page was left only where the pages
--- are few for the records that were loaded. How many rows a search loaded is said of each answer of a group, and not yet of the whole run
+-- has left and of the pages, has what the caller's lines print, and nothing else. A line tells that no page was left, or that a
+-- chain was full, only where the shape is small for the atoms that were loaded. How many rows a search loaded is said of each answer of a group, and not yet of the whole run
 pub record IsRunOf (told : Option (List File)) (script : List ℕ) (shape : Shape) (budget : ℕ) (text : List ℕ) (last : Closing) : Type 0 where
   pub run : IsRunText told script shape budget text
   pub rooms : HaveHadRoom shape (flat_map done_lines run.is_report.told.done)
   pub pages : ArePagesEnough shape (flat_map done_lines run.is_report.told.done)
+  pub chains : AreChainsEnough shape (flat_map done_lines run.is_report.told.done)
   pub same : run.is_report.history ≡ last.history
   pub events : run.report.events ≡ map log_line last.history
   pub shape_is : last.shape ≡ shape
