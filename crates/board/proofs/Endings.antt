@@ -10,6 +10,8 @@ use Rattle.board_core.specs.Sheets.{sheet_of}
 use Rattle.board_core.proofs.Answered.{known, agree_all}
 use Rattle.board_core.proofs.ChainFrame.{tree_true}
 use Rattle.board_core.proofs.OldRows.{found_old}
+use Rattle.board_core.proofs.FewPages.{few_if_gathered}
+use Rattle.board_core.proofs.ManyRows.{many_if_gathered}
 use Rattle.board.specs.Closed.{IsSettled, IsShown, Ends, closing}
 
 module _ (k : Shape) (ws : List ℕ) (v : View) (e : Ends k ws v) where
@@ -23,6 +25,8 @@ module _ (k : Shape) (ws : List ℕ) (v : View) (e : Ends k ws v) where
         rooms = e.2.rule.full e.1 v e.3;
         pages = e.2.rule.empty e.1 v e.3;
         chains = λ j a there i n at. tree_true k (parts_of k e.0.words).pages (sheet_of (parts_of k e.0.words).pool.states e.0.views) n.entry (e.2.rule.chains e.1 v e.3 j a there i n at);
+        few = λ whole i a there j n spot is. few_if_gathered k e.0 e.1 v e.2 e.3 whole i j a n there spot is;
+        full = λ whole i a there j n spot pages is. many_if_gathered k e.0 e.1 v e.2 e.3 whole i a there j n spot pages is;
       })
 
   pub shown : IsShown (closing k ws v)

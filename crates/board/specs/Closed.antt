@@ -8,12 +8,14 @@ use Rattle.htss_defs.specs.declared.history.Event.{Event}
 use Rattle.htss_defs.specs.History.{IsLegal}
 use Rattle.board_core.specs.declared.account.Account.{Account}
 use Rattle.board_core.specs.declared.account.View.{View}
-use Rattle.board_core.specs.Each.{Each}
+use Rattle.board_core.specs.declared.entry.Entry.TheVariants.{NoPage, ChainFull}
+use Rattle.board_core.specs.Each.{Each, sum_of}
 use Rattle.board_core.specs.Words.{Parts, parts_of, states_at, pages_at, from_one, sixteen}
 use Rattle.board_core.specs.LogRule.{IsByLoader}
 use Rattle.board_core.specs.Steps.{MayBe}
 use Rattle.board_core.specs.Histories.{history_of}
-use Rattle.board_core.specs.Accounts.{accounts_in}
+use Rattle.board_core.specs.Accounts.{accounts_in, is_loader}
+use Rattle.board_core.specs.CountRule.{insertions_of, pages_for}
 use Rattle.board_core.specs.Truths.{IsTrueStory, IsTrueRoom, IsTruePool}
 use Rattle.board_core.specs.Rows.{codes_in}
 use Rattle.board_core.specs.RowWalk.{IsFound}
@@ -55,8 +57,24 @@ pages_in pages = sixteen (slice_index pages)
 abbrev pub Ends : Shape → List ℕ → View → Type 0
 Ends k ws v = (s : State (Unit {0}) View) × (id : ℕ) × Holds k s × (get_elem? s.views id ≡ some v) × (s.words ≡ ws)
 
+-- all loaders of the board are among the accounts
+abbrev pub HasAllLoaders : Closing → Type 0
+HasAllLoaders c = sum_of (λ a. is_loader a.who) c.accounts ≡ c.shape.loaders
+
+-- the insertions that these accounts have begun
+abbrev pub begun_in : List Account → ℕ
+begun_in accounts = sum_of insertions_of accounts
+
+-- that no page is left was answered only where the shape has few pages for the insertions begun
+abbrev pub AreFewPages : Shape → List Account → Type 0
+AreFewPages k accounts = Each (λ a. Each (λ n. n.entry ≡ NoPage → k.pages ≤ pages_for (begun_in accounts) k.loaders) a.entries) accounts
+
+-- that a chain is full was answered only where many insertions were begun: seven for each page of a chain
+abbrev pub AreFewChains : Shape → List Account → Type 0
+AreFewChains k accounts = Each (λ a. Each (λ n. (pages : ℕ) → n.entry ≡ ChainFull pages → 7 * k.chain ≤ begun_in accounts) a.entries) accounts
+
 -- the history is legal, fits the log and is by its loaders, and each account is true: of the history, of the words that are left of
--- its region, of the states of pages, and of the chains of pages
+-- its region, of the states of pages, and of the chains of pages. Refusals for want of pages have the insertions that they need
 pub record IsSettled (c : Closing) : Type 0 where
   pub legal : IsLegal c.history
   pub fits : length c.history ≤ c.shape.log
@@ -65,6 +83,8 @@ pub record IsSettled (c : Closing) : Type 0 where
   pub rooms : Each (λ a. Each (λ n. IsTrueRoom (c.shape.room - length a.room.used) n.entry) a.entries) c.accounts
   pub pages : Each (λ a. Each (λ n. IsTruePool c.shape (state_in c.states) n.entry) a.entries) c.accounts
   pub chains : Each (λ a. Each (λ n. IsTrueTree c.shape (pages_in c.pages) n.entry) a.entries) c.accounts
+  pub few : HasAllLoaders c → AreFewPages c.shape c.accounts
+  pub full : HasAllLoaders c → AreFewChains c.shape c.accounts
 
 -- the history is shown by words such as each account has loaded, and the walk of each row of a published record finds it
 pub record IsShown (c : Closing) : Type 0 where

@@ -12,12 +12,12 @@ use Rattle.board_core.specs.declared.account.Who.{Who}
 use Rattle.board_core.specs.declared.account.Who.TheVariants.{Opener, Loader, Searcher, Note, Gone}
 use Rattle.board_core.specs.declared.entry.Entry.TheVariants.{NoPage}
 use Rattle.board_core.specs.declared.entry.Noted.{Noted}
-use Rattle.board_core.specs.Each.{Each, In, sum_of}
+use Rattle.board_core.specs.Each.{Each, sum_of}
 use Rattle.board_core.specs.Words.{parts_of}
-use Rattle.board_core.specs.Accounts.{EachAccount, accounts_in, total, seat_of, is_seat, is_loader}
+use Rattle.board_core.specs.Accounts.{EachAccount, accounts_in, total, is_seat, is_loader}
 use Rattle.board_core.specs.SeatRule.{SeatRule, WhoFits, made}
 use Rattle.board_core.specs.Truths.{IsTruePool}
-use Rattle.board_core.specs.CountRule.{most_linked, most_own, pages_for, busy_up_to, insertions_of, pages_of, CountFits, CountRule}
+use Rattle.board_core.specs.CountRule.{most_linked, most_own, pages_for, busy_up_to, insertions_of, pages_of, CountRule}
 use Rattle.board_core.specs.Holds.{Holds}
 use Rattle.board_core.specs.declared.room.Row.{Row}
 use Rattle.board_core.specs.RoomRule.{store_of, room_of, RoomFits}
@@ -31,11 +31,11 @@ sum_most : {A : Type 0} (f g : A → ℕ) (xs : List A) → Each (λ x. f x ≤ 
 sum_most f g [] all = omega arith
 sum_most f g (x ∷ xs) all = let here = all zero x refl in let rest = sum_most f g xs (λ j. all (suc j)) in omega arith
 
-sum_plus : {A : Type 0} (f g : A → ℕ) (xs : List A) → sum_of (λ x. f x + g x) xs ≡ sum_of f xs + sum_of g xs
+pub sum_plus : {A : Type 0} (f g : A → ℕ) (xs : List A) → sum_of (λ x. f x + g x) xs ≡ sum_of f xs + sum_of g xs
 sum_plus f g [] = refl
 sum_plus f g (x ∷ xs) = let rest = sum_plus f g xs in omega arith
 
-sum_same : {A : Type 0} (f g : A → ℕ) (xs : List A) → ((x : A) → f x ≡ g x) → sum_of f xs ≡ sum_of g xs
+pub sum_same : {A : Type 0} (f g : A → ℕ) (xs : List A) → ((x : A) → f x ≡ g x) → sum_of f xs ≡ sum_of g xs
 sum_same f g [] same = refl
 sum_same f g (x ∷ xs) same = let here = same x in let rest = sum_same f g xs same in omega arith
 
@@ -43,10 +43,10 @@ sum_none : {A : Type 0} (xs : List A) → sum_of (λ _. 0) xs ≡ 0
 sum_none [] = refl
 sum_none (x ∷ xs) = let rest = sum_none xs in omega arith
 
-total_most : (f g : Account → ℕ) (vs : List View) → EachAccount (λ a. f a ≤ g a) vs → total f vs ≤ total g vs
+pub total_most : (f g : Account → ℕ) (vs : List View) → EachAccount (λ a. f a ≤ g a) vs → total f vs ≤ total g vs
 total_most f g vs all = sum_most (λ v. sum_of f (accounts_in v)) (λ v. sum_of g (accounts_in v)) vs (λ j v at. sum_most f g (accounts_in v) (all j v at))
 
-total_plus : (f g : Account → ℕ) (vs : List View) → total (λ a. f a + g a) vs ≡ total f vs + total g vs
+pub total_plus : (f g : Account → ℕ) (vs : List View) → total (λ a. f a + g a) vs ≡ total f vs + total g vs
 total_plus f g vs = sum_same (λ v. sum_of (λ a. f a + g a) (accounts_in v)) (λ v. sum_of f (accounts_in v) + sum_of g (accounts_in v)) vs (λ v. sum_plus f g (accounts_in v))
     ∙ sum_plus (λ v. sum_of f (accounts_in v)) (λ v. sum_of g (accounts_in v)) vs
 
@@ -152,14 +152,18 @@ none_begun k regions a room rows none = no_row a.tree.begun (λ j r there.
     no_row [] none = refl
     no_row (r ∷ rs) none = absurd (none zero r refl)
 
--- where all loaders are among the accounts of one view, and one of them was told that no page is left, the table has few pages
+-- where all loaders are among the accounts of one view, all rows were begun by these
+pub all_gathered : (k : Shape) (s : State (Unit {0}) View) (id : ℕ) (v : View) → Holds k s → get_elem? s.views id ≡ some v → sum_of (λ a. is_loader a.who) (accounts_in v) ≡ k.loaders → total insertions_of s.views ≡ sum_of insertions_of (accounts_in v)
+all_gathered k s id v h at all =
+    let loaders = few_loaders k s.views h.rule.seats in
+    let regions : ℕ → ℕ = (parts_of k s.words).regions in
+    only_each (λ u. sum_of (λ b. is_loader b.who) (accounts_in u)) (λ u. sum_of insertions_of (accounts_in u)) s.views id v
+    (λ t u up none. none_each (λ b. is_loader b.who) insertions_of (accounts_in u) (λ q b in_view e. none_begun k regions b (h.rule.rooms.rooms t u up q b in_view) (h.rule.rows t u up q b in_view).begun e) none)
+    at (omega arith)
+
+-- and where one of them was told that no page is left, the table has few pages
 pub few_if_gathered : (k : Shape) (s : State (Unit {0}) View) (id : ℕ) (v : View) → Holds k s → get_elem? s.views id ≡ some v → sum_of (λ a. is_loader a.who) (accounts_in v) ≡ k.loaders
     → (i j : ℕ) (a : Account) (n : Noted) → get_elem? (accounts_in v) i ≡ some a → get_elem? a.entries j ≡ some n → n.entry ≡ NoPage → k.pages ≤ pages_for (sum_of insertions_of (accounts_in v)) k.loaders
 few_if_gathered k s id v h at all i j a n there spot is =
-    let loaders = few_loaders k s.views h.rule.seats in
-    let regions : ℕ → ℕ = (parts_of k s.words).regions in
-    let only : total insertions_of s.views ≡ sum_of insertions_of (accounts_in v) =
-    only_each (λ u. sum_of (λ b. is_loader b.who) (accounts_in u)) (λ u. sum_of insertions_of (accounts_in u)) s.views id v
-    (λ t u up none. none_each (λ b. is_loader b.who) insertions_of (accounts_in u) (λ q b in_view e. none_begun k regions b (h.rule.rooms.rooms t u up q b in_view) (h.rule.rows t u up q b in_view).begun e) none)
-    at (omega arith) in
+    let only = all_gathered k s id v h at all in
     let most = few_if_told k s id i j v a n h at there spot is in omega arith

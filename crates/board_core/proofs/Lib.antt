@@ -99,6 +99,8 @@ pub mod OwnWords
 pub mod SplitTree
 pub mod ExchangeLeaf
 pub mod FewPages
+pub mod Counted
+pub mod ManyRows
 pub mod ClaimWord
 pub mod LoadOwnCode
 pub mod LoadMet

@@ -1,4 +1,4 @@
--- The accounts of a board: a seat's own, and those of the callers that it gathered.
+-- The accounts of a board: a seat's own, and those of the callers that it gathered (this project's own).
 use Rattle.std.specs.Prelude.{ℕ, ◌+◌, ◌-◌, ◌≤◌, ◌==◌, nat_lt, List, [], ◌∷◌, ◌++◌, None, if◌then◌else◌}
 use Rattle.htss_defs.specs.declared.shape.Shape.{Shape}
 use Rattle.board_core.specs.declared.account.Who.{Who}

@@ -1,4 +1,4 @@
--- What was answered of a full chain is true: there are so many full pages of one chain.
+-- What was answered of a full chain is true: there are so many full pages of one chain (this project's own).
 use Rattle.std.specs.Prelude.{◌≡◌, ◌≢◌, ℕ, ◌+◌, ◌*◌, ◌<◌, ◌≤◌, Bool, List, length}
 use Rattle.htss_defs.specs.declared.shape.Shape.{Shape}
 use Rattle.board_core.specs.declared.account.Account.{Account}

@@ -1,4 +1,4 @@
--- The tree part of the rule: where linked pages stand, and what stands in them.
+-- The tree part of the rule: where linked pages stand, and what stands in them (this project's own).
 use Rattle.std.specs.Prelude.{◌≡◌, ◌≢◌, ℕ, ◌+◌, ◌*◌, ◌<◌, ◌≤◌, Bool, true, false, List, [], ◌∷◌, ◌++◌, length}
 use Rattle.board_core.specs.declared.tree.Way.{Way}
 use Rattle.board_core.specs.declared.tree.Way.TheVariants.{More, Branch}

@@ -1,4 +1,4 @@
--- A fact of each element, read by its place, and a sum over the elements.
+-- A fact of each element, read by its place, and a sum over the elements (this project's own).
 use Rattle.std.specs.Prelude.{◌≡◌, ℕ, ◌+◌, List, [], ◌∷◌}
 use mathlib.Core.Option.{some}
 use lib.ListN.{get_elem?}

@@ -1,4 +1,4 @@
--- The log: who has the lock, which words stand in the log, and what the holder has stored.
+-- The log: who has the lock, which words stand in the log, and what the holder has stored (this project's own).
 use Rattle.std.specs.Prelude.{◌≡◌, ℕ, ◌<◌, ◌≤◌, ◌==◌, List, length, Option, Some, None, if◌then◌else◌}
 use Rattle.htss_defs.specs.declared.shape.Shape.{Shape}
 use Rattle.htss_defs.specs.declared.history.Event.{Event}

@@ -1,4 +1,4 @@
--- What makes an entry true of a history, and which events an account tells of.
+-- What makes an entry true of a history, and which events an account tells of (this project's own).
 use Rattle.std.specs.Prelude.{◌<◌, ◌≡◌, ◌≢◌, ℕ, ◌≤◌, List, [], ◌∷◌, ◌++◌, length, take}
 use Rattle.htss_defs.specs.declared.shape.Shape.{Shape}
 use Rattle.htss_defs.specs.declared.history.Event.{Event}

@@ -1,4 +1,4 @@
--- The words of a board by group, as functions of their place in the group. The laws of the steps speak of these alone.
+-- The words of a board by group, as functions of their place in the group. The laws of the steps speak of these alone (this project's own).
 use Rattle.std.specs.Prelude.{ℕ, zero, suc, ◌+◌, ◌*◌, ◌-◌, ◌==◌, nat_lt, List, ◌++◌, ◌∷◌, take, drop, replicate, slice_index, if◌then◌else◌}
 use Rattle.htss_defs.specs.declared.shape.Shape.{Shape}
 

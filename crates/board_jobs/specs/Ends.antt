@@ -1,4 +1,4 @@
--- What is known of a board at its end: its words, and the account of each caller.
+-- What is known of a board at its end: its words, and the account of each caller (this project's own).
 use Rattle.std.specs.Prelude.{◌≡◌, ℕ, ◌+◌, ◌-◌, List, length, nat_lt, if◌then◌else◌}
 use mathlib.Core.Option.{some}
 use lib.ListN.{get_elem?}

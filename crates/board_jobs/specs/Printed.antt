@@ -1,4 +1,4 @@
--- The entries that the lines of one caller print.
+-- The entries that the lines of one caller print (this project's own).
 use Rattle.std.specs.Prelude.{List, filter}
 use Rattle.std.specs.List.{flat_map}
 use Rattle.report_rules.specs.Dealing.{Caller}

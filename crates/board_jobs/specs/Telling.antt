@@ -1,4 +1,4 @@
--- The entries of an account that the lines of a report print.
+-- The entries of an account that the lines of a report print (this project's own).
 use Rattle.std.specs.Prelude.{ℕ, List, [], ◌∷◌, map}
 use Rattle.htss_defs.specs.declared.history.Event.TheVariants.{Publish, Withdraw}
 use Rattle.htss_defs.specs.declared.record.NamedMol.{NamedMol}

@@ -1,4 +1,4 @@
--- What a call of the program promises: an outcome with its cause, and the status and the bytes that it leaves.
+-- What a call of the program promises: an outcome with its cause, and the status and the bytes that it leaves (this project's own).
 use Rattle.std.specs.Prelude.{◌≡◌, ◌⊎◌, ℕ, ◌≤◌, List, [], Option, None, Some, Ok}
 use Rattle.std.specs.Io.KnownBytes.{append_known}
 use Rattle.htss_defs.specs.QueryGraph.{QueryGraph}

@@ -1,4 +1,4 @@
--- The texts of `find`, `check` and `codes`, from the bytes of their files.
+-- The texts of `find`, `check` and `codes`, from the bytes of their files (this project's own).
 use Rattle.std.specs.Prelude.{◌≡◌, ◌⊎◌, ℕ, List, ◌++◌, Option, Result, Ok, Err}
 use Rattle.htss_defs.specs.QueryGraph.{QueryGraph}
 use Rattle.htss_defs.specs.History.{publications}

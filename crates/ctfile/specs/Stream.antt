@@ -1,4 +1,4 @@
--- A reader of a stream that comes in pieces: what it holds, what it takes, and what it has read.
+-- A reader of a stream that comes in pieces: what it holds, what it takes, and what it has read (this project's own).
 use Rattle.std.specs.Prelude.{◌≡◌, ◌⊎◌, ℕ, ◌+◌, List, [], ◌++◌, ◌≤◌, ◌<◌, ◌^◌, length, Bool, true, false, Result, Ok, Err}
 use Rattle.htss_defs.specs.Molecule.{Molecule}
 use Rattle.mol_section.specs.Lines.{lines_of}

@@ -1,4 +1,4 @@
--- The hits of a query in a history.
+-- The hits of a query in a history (this project's own).
 use Rattle.std.specs.Prelude.{ℕ, List, map, All, Contains}
 use Rattle.std.specs.List.Sorted.{IsStrictlyIncreasing}
 use Rattle.htss_defs.specs.declared.history.Event.{Event}

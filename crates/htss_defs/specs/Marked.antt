@@ -1,4 +1,5 @@
 -- Marked molecules and queries: the flag of each bond says whether it is a ring bond.
+-- (textbook: a bond is in a ring where it is in a cycle. The flag is this project's own.)
 use Rattle.std.specs.Prelude.{◌≡◌, ◌↔◌, ℕ, Bool, false, Some, IsTrue, map, slice_get, slice_set, slice_index_or}
 use Rattle.htss_defs.specs.declared.mol.Bond.{Bond}
 use Rattle.htss_defs.specs.declared.query.QueryBond.{QueryBond}

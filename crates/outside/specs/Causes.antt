@@ -1,4 +1,4 @@
--- When a fault may be answered: only where a count of the outside has risen.
+-- When a fault may be answered: only where a count of the outside has risen (this project's own).
 use Rattle.std.specs.Prelude.{◌≡◌, ℕ, ◌+◌, ◌-◌, ◌^◌, ◌≤◌, min, List, Option, None, Result, MatchOption, IsErrOf}
 use Rattle.outside.specs.declared.shelf.ShelfError.{ShelfError}
 use Rattle.outside.specs.declared.shelf.ShelfError.TheVariants.{Absent, Failed}

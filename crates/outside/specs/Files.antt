@@ -1,4 +1,4 @@
--- Files by name, and what a read gives of them.
+-- Files by name, and what a read gives of them (this project's own).
 use Rattle.std.specs.Prelude.{◌≡◌, ◌⊎◌, ℕ, ◌<◌, ◌≤◌, List, [], ◌∷◌, length, take, drop, ◌++◌, if◌then◌else◌, Option, None, Some, Result, IfSome, IfOk, IsSomeAnd, MatchOption}
 use Rattle.std.specs.Str.{bytes_eq}
 

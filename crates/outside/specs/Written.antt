@@ -1,4 +1,4 @@
--- What a write leaves, and when it may fail.
+-- What a write leaves, and when it may fail (this project's own).
 use Rattle.std.specs.Prelude.{◌≡◌, ℕ, ◌<◌, ◌≤◌, List, length, take, Option, Result, OnErr, IfOk}
 use Rattle.std.specs.Io.KnownBytes.{append_known}
 use Rattle.outside.specs.Causes.{Rose}

@@ -1,4 +1,6 @@
 -- The query of a section, or the line that is refused.
+-- (CTfile Formats, "The Header Block", "The Atom Block", "The Bond Block" and "The Properties Block", as QueryLines reads them. What is refused is this
+-- project's own.)
 use Rattle.std.specs.Prelude.{◌≡◌, ◌⊎◌, ℕ, ◌+◌, ◌<◌, ◌^◌, pos, List, [], ◌∷◌, length, map, fold, slice_get, bit_or}
 use Rattle.std.specs.Prelude.{Option, None, Some, unwrap_or, is_some, Bool, true, false, not, ◌&&◌, ◌==◌, nat_lt, if◌then◌else◌}
 use Rattle.std.specs.List.{list_any, zip, range_with_len, filter_map}

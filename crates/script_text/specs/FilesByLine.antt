@@ -1,4 +1,4 @@
--- The bytes of files, by the line that each was put for.
+-- The bytes of files, by the line that each was put for (this project's own).
 use Rattle.std.specs.Prelude.{ℕ, List, [], ◌∷◌, Option, None, Some, ◌==◌, if◌then◌else◌}
 
 -- the bytes of the line, if it has any
