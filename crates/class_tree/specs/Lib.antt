@@ -5,3 +5,4 @@ pub mod Stocked
 pub mod Refusing
 pub mod Linking
 pub mod Splitting
+pub mod FullChains

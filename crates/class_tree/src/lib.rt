@@ -5,6 +5,7 @@
 mod fill;
 mod find;
 mod insert;
+mod law;
 mod leaf;
 mod link;
 mod read;
@@ -14,3 +15,4 @@ mod walks;
 
 pub use board_core::Row;
 pub use insert::{InsertError, insert_row};
+pub use law::law_of_chains;
