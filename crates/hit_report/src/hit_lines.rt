@@ -15,6 +15,7 @@ pub fn push_hit(
 ) -> Result<(), OutOfMemory>
     ensures ok { OnOk result (text.new.items
         ≡ text.old.items ++ hit_line (record { number = number; name = name.now; map = map.now })) }
+    ensures front { KeepsFront text.old.items text.new.items }
     ensures err { OnErr result (text.new.items ≡ text.old.items) }
 {
     let before = text.len();
@@ -36,6 +37,7 @@ pub fn push_count(text: &mut Vec<u8>, count: u32) -> Result<(), OutOfMemory>
 /// the text as it was.
 pub fn push_overbudget(text: &mut Vec<u8>, budget: u64) -> Result<(), OutOfMemory>
     ensures ok { OnOk result (text.new.items ≡ text.old.items ++ overbudget_line budget) }
+    ensures front { KeepsFront text.old.items text.new.items }
     ensures err { OnErr result (text.new.items ≡ text.old.items) }
 {
     let before = text.len();
@@ -43,14 +45,8 @@ pub fn push_overbudget(text: &mut Vec<u8>, budget: u64) -> Result<(), OutOfMemor
     kept_or_cut(text, before, appended)
 }
 
-/// Appends the line of a hit. Where memory runs out, the text before stands, and more may follow.
 #[tactic(auto, using(crate::proofs::Fronts::front_trans), unfolding(crate::specs::HitLines::hit_line))]
-pub fn append_hit(
-    text: &mut Vec<u8>,
-    number: u32,
-    map: &[u16],
-    name: &[u8],
-) -> Result<(), OutOfMemory>
+fn append_hit(text: &mut Vec<u8>, number: u32, map: &[u16], name: &[u8]) -> Result<(), OutOfMemory>
     ensures ok { OnOk result (text.new.items
         ≡ text.old.items ++ hit_line (record { number = number; name = name.now; map = map.now })) }
     ensures front { KeepsFront text.old.items text.new.items }
@@ -73,9 +69,8 @@ fn append_count(text: &mut Vec<u8>, count: u32) -> Result<(), OutOfMemory>
     append_bytes(text, b"\n")
 }
 
-/// Appends the line that stands in place of hits that the budget does not allow. Where memory runs out, the text before stands, and more may follow.
 #[tactic(auto, using(crate::proofs::Fronts::front_trans), unfolding(crate::specs::HitLines::overbudget_line))]
-pub fn append_overbudget(text: &mut Vec<u8>, budget: u64) -> Result<(), OutOfMemory>
+fn append_overbudget(text: &mut Vec<u8>, budget: u64) -> Result<(), OutOfMemory>
     ensures ok { OnOk result (text.new.items ≡ text.old.items ++ overbudget_line budget) }
     ensures front { KeepsFront text.old.items text.new.items }
 {

@@ -6,10 +6,9 @@ mod codes_lines;
 mod hit_lines;
 mod record_lines;
 
-pub use append::{append_bytes, append_name, kept_or_cut};
+pub use append::{append_bytes, append_name, append_spaced, kept_or_cut};
 pub use codes_lines::push_codes;
-pub use hit_lines::{append_hit, append_overbudget, push_count, push_hit, push_overbudget};
+pub use hit_lines::{push_count, push_hit, push_overbudget};
 pub use record_lines::{
-    append_refusal, append_refused, append_spaced, code_word, push_ok, push_query_refused,
-    push_records, push_refused,
+    code_word, push_ok, push_query_refused, push_records, push_refusal, push_refused,
 };

@@ -1,9 +1,9 @@
 // Lines of records and of refusals.
 ghost use Rattle.std.specs.Prelude.{◌≡◌, ℕ, ◌∷◌, ◌++◌, [], OnOk, OnErr};
-ghost use Rattle.hit_report.specs.RecordLines.{code_word, ok_line, query_refused_line, records_line, refusal_text, refused_line, spaced};
+ghost use Rattle.hit_report.specs.RecordLines.{code_word, ok_line, query_refused_line, records_line, refusal_text, refused_line};
 ghost use Rattle.hit_report.specs.Appends.{KeepsFront};
 
-use crate::append::{append_bytes, append_name, append_number, kept_or_cut};
+use crate::append::{append_bytes, append_name, append_spaced, kept_or_cut};
 use htss_defs::OutOfMemory;
 
 /// The word of a code of a refusal, 1 to 14 or 20 to 22; empty for other numbers.
@@ -51,6 +51,7 @@ pub fn push_ok(
 /// Appends the line of a record that was refused, `refused PLACE LINE CODE WORD`. An `Err` leaves the text as it was.
 pub fn push_refused(text: &mut Vec<u8>, place: u32, line: u64, code: u8) -> Result<(), OutOfMemory>
     ensures ok { OnOk result (text.new.items ≡ text.old.items ++ refused_line place line code) }
+    ensures front { KeepsFront text.old.items text.new.items }
     ensures err { OnErr result (text.new.items ≡ text.old.items) }
 {
     let before = text.len();
@@ -103,14 +104,8 @@ fn append_ok(
     append_bytes(text, b"\n")
 }
 
-/// Appends the line of a record that was refused. Where memory runs out, the text before stands, and more may follow.
 #[tactic(auto, using(crate::proofs::Fronts::front_trans), unfolding(crate::specs::RecordLines::refused_line))]
-pub fn append_refused(
-    text: &mut Vec<u8>,
-    place: u32,
-    line: u64,
-    code: u8,
-) -> Result<(), OutOfMemory>
+fn append_refused(text: &mut Vec<u8>, place: u32, line: u64, code: u8) -> Result<(), OutOfMemory>
     ensures ok { OnOk result (text.new.items ≡ text.old.items ++ refused_line place line code) }
     ensures front { KeepsFront text.old.items text.new.items }
 {
@@ -148,9 +143,19 @@ fn append_records(
     append_bytes(text, b"\n")
 }
 
-/// Appends where and why something is refused, and the end of the line. Where memory runs out, the text before stands, and more may follow.
+/// Appends where and why something is refused, and the end of the line. An `Err` leaves the text as it was.
+pub fn push_refusal(text: &mut Vec<u8>, line: u64, code: u8) -> Result<(), OutOfMemory>
+    ensures ok { OnOk result (text.new.items ≡ text.old.items ++ refusal_text line code) }
+    ensures front { KeepsFront text.old.items text.new.items }
+    ensures err { OnErr result (text.new.items ≡ text.old.items) }
+{
+    let before = text.len();
+    let appended = append_refusal(text, line, code);
+    kept_or_cut(text, before, appended)
+}
+
 #[tactic(auto, using(crate::proofs::Fronts::front_trans), unfolding(crate::specs::RecordLines::refusal_text))]
-pub fn append_refusal(text: &mut Vec<u8>, line: u64, code: u8) -> Result<(), OutOfMemory>
+fn append_refusal(text: &mut Vec<u8>, line: u64, code: u8) -> Result<(), OutOfMemory>
     ensures ok { OnOk result (text.new.items ≡ text.old.items ++ refusal_text line code) }
     ensures front { KeepsFront text.old.items text.new.items }
 {
@@ -159,14 +164,4 @@ pub fn append_refusal(text: &mut Vec<u8>, line: u64, code: u8) -> Result<(), Out
     append_bytes(text, b" ")?;
     append_bytes(text, code_word(code))?;
     append_bytes(text, b"\n")
-}
-
-/// Appends a space and a number. Where memory runs out, the text before stands, and more may follow.
-#[tactic(auto, using(crate::proofs::Fronts::front_trans))]
-pub fn append_spaced(text: &mut Vec<u8>, number: u64) -> Result<(), OutOfMemory>
-    ensures ok { OnOk result (text.new.items ≡ text.old.items ++ spaced number) }
-    ensures front { KeepsFront text.old.items text.new.items }
-{
-    append_bytes(text, b" ")?;
-    append_number(text, number)
 }

@@ -3,8 +3,10 @@
 
 mod appends;
 mod frees;
+mod law;
 mod locked;
 mod refusals;
 
+pub use law::{law_of_history, law_of_moments};
 pub use locked::{Locked, front, lock};
 pub use refusals::{LogFull, WithdrawError};

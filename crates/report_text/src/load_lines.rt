@@ -6,7 +6,7 @@ ghost use Rattle.report_text.specs.ReportText.{data_full_line, full_line, load_l
 
 use crate::LoadLine;
 use crate::parts::{append_end, append_job, append_labelled};
-use hit_report::{append_bytes, append_name, append_refused, append_spaced};
+use hit_report::{append_bytes, append_name, append_spaced, push_refused};
 use htss_defs::{FileName, OutOfMemory};
 
 /// Appends the block of a load.
@@ -63,7 +63,7 @@ fn append_answer(text: &mut Vec<u8>, answer: &LoadLine) -> Result<(), OutOfMemor
 {
     match answer {
         LoadLine::Published { number, name } => append_published(text, *number, name.bytes()),
-        LoadLine::Refused { place, line, code } => append_refused(text, *place, *line, *code),
+        LoadLine::Refused { place, line, code } => push_refused(text, *place, *line, *code),
         LoadLine::DataFull { place, left, need } => append_data_full(text, *place, *left, *need),
         LoadLine::NoPage { place } => append_no_page(text, *place),
         LoadLine::ChainFull { place, pages } => append_full(text, *place, b" ChainFull", *pages),

@@ -7,7 +7,7 @@ ghost use Rattle.std.specs.List.{flat_map};
 
 use crate::SearchLine;
 use crate::parts::{append_end, append_job, append_labelled};
-use hit_report::{append_bytes, append_hit, append_overbudget, append_refusal};
+use hit_report::{append_bytes, push_hit, push_overbudget, push_refusal};
 use htss_defs::{FileName, Hit, OutOfMemory};
 
 /// Appends the block of a search.
@@ -64,7 +64,7 @@ fn append_over(text: &mut Vec<u8>, front: u32, budget: u64) -> Result<(), OutOfM
     ensures front { KeepsFront text.old.items text.new.items }
 {
     append_front(text, front)?;
-    append_overbudget(text, budget)
+    push_overbudget(text, budget)
 }
 
 #[tactic(auto, using(hit_report::proofs::Fronts::front_trans), unfolding(crate::specs::ReportText::refused_part))]
@@ -73,7 +73,7 @@ fn append_query_fault(text: &mut Vec<u8>, line: u64, code: u8) -> Result<(), Out
     ensures front { KeepsFront text.old.items text.new.items }
 {
     append_bytes(text, b" refused")?;
-    append_refusal(text, line, code)
+    push_refusal(text, line, code)
 }
 
 #[tactic(auto, using(hit_report::proofs::Fronts::front_trans), unfolding(crate::specs::ReportText::front_text))]
@@ -91,7 +91,7 @@ fn append_hits(text: &mut Vec<u8>, hits: &[Hit]) -> Result<(), OutOfMemory>
     ensures front { KeepsFront text.old.items text.new.items }
 {
     for hit in hits {
-        append_hit(text, hit.number, hit.map.as_slice(), hit.name.bytes())?;
+        push_hit(text, hit.number, hit.map.as_slice(), hit.name.bytes())?;
     }
     Ok(())
 }

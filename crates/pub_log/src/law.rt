@@ -1,0 +1,14 @@
+// Two laws on histories.
+ghost use Rattle.pub_log.specs.Later.{LawOfHistory};
+ghost use Rattle.pub_log.specs.Moments.{LawOfMoments};
+
+/// The law of history: of any two moments of a board, the history of the later one begins with that of the earlier one. A moment is later
+/// where each loader's account has the entries that it had, and perhaps more. The function does nothing, at no cost: its clause is the law.
+pub fn law_of_history()
+    ensures { LawOfHistory }
+{}
+
+/// Each kind of step on a board leads to a later moment, whoever makes it. The function does nothing, at no cost: its clause is the law.
+pub fn law_of_moments()
+    ensures { LawOfMoments }
+{}
