@@ -111,4 +111,4 @@ loaders_from k first (a ∷ accounts) are =
     (λ not_past. let before : first < k.loaders = lt_of_not-le not_past in let one = is_one k first before in omega (arith, here, rest, one, before))
 
 pub all_loaders : (k : Shape) (accounts : List Account) → length accounts ≡ k.loaders + k.searchers → ((i : ℕ) (a : Account) → get_elem? accounts i ≡ some a → a.who ≡ caller_after k i) → sum_of (λ a. is_loader a.who) accounts ≡ k.loaders
-all_loaders k accounts count are = let all = loaders_from k 0 accounts are in omega (arith, all, count)
+all_loaders k accounts count are = let all = loaders_from k 0 accounts (λ i a there. let same : i ≡ 0 + i = omega arith in are i a there ∙ ap (caller_after k) same) in omega (arith, all, count)

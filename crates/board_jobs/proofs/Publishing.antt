@@ -282,13 +282,13 @@ taken-refused b c d place name mol stage.NoPage work stopped room =
     let s = staging b.shape c.account name mol in record {
       fate = no_page;
       line_is = refl;
-      answers = page-answers b.shape c.account d.account s room (prepared c.account d.account s s.block (stopped.count + 1) stopped.count (NoPage ∷ []) stopped.within stopped.left (told_one c.account d.account NoPage refl stopped.left.entries));
+      answers = page-answers b.shape c.account d.account s room (prepared c.account d.account s s.block (stopped.count + 1) stopped.count (NoPage ∷ []) (let below = stopped.within in omega (arith, below)) stopped.left (told_one c.account d.account NoPage refl stopped.left.entries));
     }
 taken-refused b c d place name mol (stage.ChainFull pages) work stopped room =
     let s = staging b.shape c.account name mol in record {
       fate = chain_full pages;
       line_is = refl;
-      answers = chain-answers b.shape c.account d.account s pages stopped.refused.all room (prepared c.account d.account s s.block (stopped.count + 1) stopped.count (ChainFull pages ∷ []) stopped.within stopped.left (told_one c.account d.account (ChainFull pages) refl stopped.left.entries));
+      answers = chain-answers b.shape c.account d.account s pages stopped.refused.all room (prepared c.account d.account s s.block (stopped.count + 1) stopped.count (ChainFull pages ∷ []) (let below = stopped.within in omega (arith, below)) stopped.left (told_one c.account d.account (ChainFull pages) refl stopped.left.entries));
     }
 
 refused_work : (b : Place) (c d : Seated) (name : List ℕ) (mol : Molecule) (e : StageError) → IsAtWork b c → IsOf b d → IsStocked d → IsRefused b.shape c d (staging b.shape c.account name mol) e → HasRoomBut b.shape c.account (staging b.shape c.account name mol) e
@@ -297,11 +297,11 @@ refused_work b c d name mol (stage.DataFull left need) work of stocked (full, is
     (work_after b c d (after_answer c.account (DataFull left need ∷ [])) is work (record { holding = work.ready.free; pool = refl; who = refl; room = work.room }), ap (λ (x : Seated). x.account.who) is)
 refused_work b c d name mol stage.NoPage work of stocked stopped room =
     let s = staging b.shape c.account name mol in
-    let is = prepared c.account d.account s s.block (stopped.count + 1) stopped.count (NoPage ∷ []) stopped.within stopped.left (told_one c.account d.account NoPage refl stopped.left.entries) in
+    let is = prepared c.account d.account s s.block (stopped.count + 1) stopped.count (NoPage ∷ []) (let below = stopped.within in omega (arith, below)) stopped.left (told_one c.account d.account NoPage refl stopped.left.entries) in
     (prepared_work b c d s (NoPage ∷ []) work of stocked room is, is.who)
 refused_work b c d name mol (stage.ChainFull pages) work of stocked stopped room =
     let s = staging b.shape c.account name mol in
-    let is = prepared c.account d.account s s.block (stopped.count + 1) stopped.count (ChainFull pages ∷ []) stopped.within stopped.left (told_one c.account d.account (ChainFull pages) refl stopped.left.entries) in
+    let is = prepared c.account d.account s s.block (stopped.count + 1) stopped.count (ChainFull pages ∷ []) (let below = stopped.within in omega (arith, below)) stopped.left (told_one c.account d.account (ChainFull pages) refl stopped.left.entries) in
     (prepared_work b c d s (ChainFull pages ∷ []) work of stocked room is, is.who)
 
 pub on-refused : (b : Place) (c d : Seated) (place : ℕ) (name : List ℕ) (mol : Molecule) (e : StageError) → IsAtWork b c → IsOf b d → IsStocked d → IsRefused b.shape c d (staging b.shape c.account name mol) e → HasRoomBut b.shape c.account (staging b.shape c.account name mol) e
