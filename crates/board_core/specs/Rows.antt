@@ -1,4 +1,4 @@
--- Rows: an atom of a sealed block, the word by which a leaf names it, its five codes, and which rows were begun and placed.
+-- Rows: an atom of a sealed block, the word by which a leaf names it, its five codes, and which rows were begun and placed (this project's own).
 use Rattle.std.specs.Prelude.{◌≡◌, ℕ, ◌+◌, ◌*◌, ◌-◌, ◌/◌, ◌%◌, ◌^◌, ◌<◌, ◌≤◌, List, [], ◌∷◌, slice_index}
 use Rattle.htss_defs.specs.declared.shape.Shape.{Shape}
 use Rattle.board_core.specs.declared.account.Who.{Who}

@@ -60,7 +60,7 @@ tail_same : (x y : Line) (xs ys : List Line) → x ∷ xs ≡ y ∷ ys → xs �
 tail_same x y xs ys e = cc
 
 -- at its last line, or before it
-split_last : (lines earlier later : List Line) (x y : Line) → lines ++ x ∷ [] ≡ earlier ++ y ∷ later → ((lines ≡ earlier) × (x ≡ y)) ⊎ ((rest : List Line) × (lines ≡ earlier ++ y ∷ rest))
+pub split_last : (lines earlier later : List Line) (x y : Line) → lines ++ x ∷ [] ≡ earlier ++ y ∷ later → ((lines ≡ earlier) × (x ≡ y)) ⊎ ((rest : List Line) × (lines ≡ earlier ++ y ∷ rest))
 split_last [] [] later x y e = inl (λ i. [], head_same x y [] later e)
 split_last [] (z ∷ earlier) later x y e = absurd (no_tail earlier later y (tail_same x z [] (earlier ++ y ∷ later) e))
 split_last (w ∷ lines) [] later x y e = inr (lines, ap (λ first. first ∷ lines) (head_same w y (lines ++ x ∷ []) later e))

@@ -21,3 +21,7 @@ pub mod Withdrawing
 pub mod Searching
 pub mod Loading
 pub mod Ordering
+pub mod Pruned
+pub mod Asked
+pub mod Along
+pub mod Rested

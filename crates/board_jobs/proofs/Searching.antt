@@ -76,9 +76,9 @@ over-answers k a b asked budget front later s rowed c who =
       grows = s.grown;
     }
 
--- nothing is told: of a query that is refused, and of a search that memory ran out for
-quiet-answers : (k : Shape) (a b : Account) (line code front : ℕ) → a.log.seen ≤ front → Searched a b front [] → Answers k a b (to_search (not_read line code))
-quiet-answers k a b line code front later s c who =
+-- nothing is told of a search that memory ran out for
+quiet-answers : (k : Shape) (a b : Account) (front : ℕ) → a.log.seen ≤ front → Searched a b front [] → Answers k a b (to_search (not_read 0 0))
+quiet-answers k a b front later s c who =
     let seen = seen_in a b front [] s in record {
       who = s.who;
       noted_are = s.entries;
@@ -88,11 +88,12 @@ quiet-answers k a b line code front later s c who =
       fronts = all_none _;
       used = used_in a b front [] s;
       says = tt;
-      rows = tt;
+      rows = λ code. absurd (omega arith);
       begun = begun_in a b front [] s;
       grows = s.grown;
     }
 
+-- and of a query that is refused, for which nothing is done
 same-answers : (k : Shape) (a : Account) (line code : ℕ) → Answers k a a (to_search (not_read line code))
 same-answers k a line code c who = record {
   who = refl;
@@ -103,7 +104,7 @@ same-answers k a line code c who = record {
   fronts = all_none _;
   used = omega arith;
   says = tt;
-  rows = tt;
+  rows = λ code. refl;
   begun = omega arith;
   grows = grows_same a;
 }
@@ -157,7 +158,7 @@ pub on-none : (b : Place) (c d : Seated) (front : ℕ) → IsAtWork b c → IsOf
 on-none b c d front work of stock s =
     let seen = seen_in c.account d.account front [] s in
     let grown = s.grown.seen in
-    on-searched b c d front [] (to_search (not_read 0 0)) work of stock s (quiet-answers b.shape c.account d.account 0 0 front (omega (arith, seen, grown)) s)
+    on-searched b c d front [] (to_search (not_read 0 0)) work of stock s (quiet-answers b.shape c.account d.account front (omega (arith, seen, grown)) s)
 
 -- ---- the query of a file
 
@@ -192,7 +193,7 @@ pub broke-none : (b : Place) (c d : Seated) (asked : QueryGraph) (budget front :
 broke-none b c d asked budget front s =
     let seen = seen_in c.account d.account front [] s in
     let grown = s.grown.seen in
-    record { answer = not_read 0 0; said = inl refl; answers = quiet-answers b.shape c.account d.account 0 0 front (omega (arith, seen, grown)) s }
+    record { answer = not_read 0 0; said = inl refl; answers = quiet-answers b.shape c.account d.account front (omega (arith, seen, grown)) s }
 
 -- nothing was done
 pub broke-same : (k : Shape) (a : Account) (bytes : List ℕ) (budget : ℕ) → SearchBroke k a a bytes budget

@@ -66,11 +66,12 @@ Says k used after (to_record (taken one fate)) = SaysOfFate k used one fate
 Says k used after (to_withdrawal number answer) = SaysOfWithdrawal k after number answer
 Says k used after (to_search answer) = SaysOfSearch k after answer
 
--- the code words that a search has loaded from a to b are pruned, and it tells of as many rows as it loaded
+-- the code words that a search has loaded from a to b are pruned, and it tells of as many rows as it loaded; for a query that is refused
+-- nothing is loaded. No refusal has the code 0: it stands for a search that memory ran out for
 abbrev pub LoadsRows : Account → Account → Answer → Type 0
 LoadsRows a b (to_record answer) = Unit {0}
 LoadsRows a b (to_withdrawal number answer) = Unit {0}
-LoadsRows a b (to_search (not_read line code)) = Unit {0}
+LoadsRows a b (to_search (not_read line code)) = 0 < code → b.loads ≡ a.loads
 LoadsRows a b (to_search (hits_at asked budget front hits rows records)) = LoadsPruned asked a b rows
 LoadsRows a b (to_search (over_at asked budget front)) = (rows : ℕ) × LoadsPruned asked a b rows
 

@@ -8,3 +8,4 @@ pub mod Jobs
 pub mod Printed
 pub mod Rooms
 pub mod Calls
+pub mod Pruning

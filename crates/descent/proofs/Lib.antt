@@ -19,4 +19,3 @@ pub mod Full
 pub mod Whole
 pub mod Covering
 pub mod Noting
-pub mod Program

@@ -1,4 +1,4 @@
--- Lists without repetition.
+-- Lists without repetition (this project's own).
 use Rattle.std.specs.Prelude.{ℕ, List, [], ◌∷◌}
 use Rattle.board_core.specs.Each.{In}
 

@@ -8,4 +8,3 @@ pub mod Walks
 pub mod Descended
 pub mod Standing
 pub mod Answered
-pub mod Program

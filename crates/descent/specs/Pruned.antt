@@ -1,4 +1,4 @@
--- What a search may load of rows: only rows whose first code covers, each code word once, and few rows that end at one class.
+-- What a search may load of rows: only rows whose first code covers, each code word once, and few rows that end at one class (this project's own).
 use Rattle.std.specs.Prelude.{◌≡◌, ℕ, ◌≤◌, List, [], ◌∷◌, ◌++◌, length}
 use Rattle.board_core.specs.Each.{Each, In}
 use Rattle.descent.specs.Sweep.{AllCover}

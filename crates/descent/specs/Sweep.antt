@@ -1,4 +1,4 @@
--- A descent that is done: each page that it reached was read to its end, and each code that covers was followed.
+-- A descent that is done: each page that it reached was read to its end, and each code that covers was followed (this project's own).
 use Rattle.std.specs.Prelude.{◌≡◌, ℕ, ◌+◌, ◌⊎◌, Bool, false, List, [], ◌∷◌, ◌++◌, length}
 use mathlib.Core.Option.{some}
 use lib.ListN.{get_elem?}

@@ -1,4 +1,4 @@
--- What a part of a descent did: to the pages that were reached, to the code words that were loaded and to the rows given. All of it is
+-- What a part of a descent did: to the pages that were reached, to the code words that were loaded and to the rows given (this project's own). All of it is
 -- told by the caller's account alone: no word of the board and no code of a row is named that was not loaded.
 use Rattle.std.specs.Prelude.{◌≡◌, ◌≢◌, ℕ, suc, ◌<◌, ◌≤◌, ◌^◌, ◌⊎◌, Bool, true, false, List, [], ◌∷◌, ◌++◌, length}
 use mathlib.Core.Option.{some}

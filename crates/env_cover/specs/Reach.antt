@@ -1,4 +1,4 @@
--- When one word of eight lanes reaches another.
+-- When one word of eight lanes reaches another (this project's own).
 use Rattle.std.specs.Prelude.{◌≡◌, ℕ, ◌≤◌, ◌<◌, IsTrue, slice_index}
 use Rattle.htss_defs.specs.declared.needs.Need.{Need}
 use Rattle.htss_defs.specs.Passes.{allows}

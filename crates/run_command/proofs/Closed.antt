@@ -3,7 +3,7 @@ use Rattle.std.proofs.Common.{◌≡◌, ℕ, List, ◌++◌, length, take, drop
 use Rattle.std.proofs.lemmas.List.{drop_all, take_all}
 use Rattle.htss_defs.specs.declared.shape.Shape.{Shape}
 use Rattle.htss_defs.specs.declared.history.Event.{Event}
-use Rattle.board.specs.Closed.{Closing, IsSettled}
+use Rattle.board.specs.Closed.{Closing, IsSettled, IsShown}
 use Rattle.board.specs.Seated.{Place}
 use Rattle.script_run.specs.declared.gate.Worker.{Worker}
 use Rattle.script_run.specs.Working.{AreCallers}
@@ -30,10 +30,11 @@ module _ {G : Type 0} (b : Place) (size : ℕ) (new old : List (Worker G)) (is :
   end_back history end = subst (λ (l : List (Worker G)). HasEnd b.shape (accounts_of l) history) workers_back end
 
   pub closed_back : (k : Shape) (last : Closing) → b.shape ≡ k → last.shape ≡ b.shape → last.accounts ≡ accounts_of (take size (new ++ drop (length new) old))
-      → HasEnd b.shape (accounts_of (take size (new ++ drop (length new) old))) last.history → IsSettled last → IsClosedWith k (accounts_of new) last
-  closed_back k last shape shape_is accounts end settled = record {
+      → HasEnd b.shape (accounts_of (take size (new ++ drop (length new) old))) last.history → IsSettled last → IsShown last → IsClosedWith k (accounts_of new) last
+  closed_back k last shape shape_is accounts end settled shown = record {
     shape_is = shape_is ∙ shape;
     accounts_are = accounts ∙ ap (λ (l : List (Worker G)). accounts_of l) workers_back;
     end = subst (λ (z : Shape). HasEnd z (accounts_of new) last.history) shape (end_back last.history end);
     settled = settled;
+    shown = shown;
   }

@@ -45,6 +45,7 @@ use Rattle.board_jobs.proofs.Places.{map_back}
 use Rattle.board_jobs.proofs.Printing.{entries_printed}
 use Rattle.board_jobs.proofs.LogLines.{log_lines}
 use Rattle.board_jobs.proofs.Reported.{known_end, reported}
+use Rattle.board_jobs.proofs.Rested.{run_pruned}
 use Rattle.board_jobs.proofs.Ruled.{roomed, ruled}
 use Rattle.board_jobs.proofs.Begun.{all_loaders}
 use Rattle.board_jobs.proofs.Enough.{chains_enough, pages_enough}
@@ -262,6 +263,7 @@ pub record IsClosedWith (shape : Shape) (accounts : List Account) (last : Closin
   pub accounts_are : last.accounts ≡ accounts
   pub end : HasEnd shape accounts last.history
   pub settled : IsSettled last
+  pub shown : IsShown last
 
 -- all of its loaders are there, so its refusals for want of pages have the insertions that they need
 loaders_there : (shape : Shape) (accounts : List Account) (last : Closing) → IsClosedWith shape accounts last → HasAllLoaders last
@@ -337,6 +339,9 @@ run_is told script groups shape budget accounts text text_now last limits closed
       each = λ i a there.
           let at = subst (λ (l : List Account). get_elem? l i ≡ some a) closed.accounts_are there in
           record { who = end.callers i a at; entries = entries_printed shape done.files budget groups done.new accounts done.front done.done limits done.are_new done.are_done i a at };
+      pruned = λ i a from there.
+          let at = subst (λ (l : List Account). get_elem? l i ≡ some a) closed.accounts_are there in
+          run_pruned shape done.files budget groups done.new accounts done.front done.done limits done.are_new done.are_done i a from at;
     }
 
 -- ---- the end of a board
@@ -378,6 +383,7 @@ closed_with b workers last are shape_is accounts_is settled shown =
       accounts_are = now;
       end = settled_end b.shape (accounts_of workers) last settled shown shape_is now count callers;
       settled = settled;
+      shown = shown;
     }
 
 -- callers that are ready are at rest

@@ -1,5 +1,5 @@
 -- What a run that ended well has done on its board (this project's own).
-use Rattle.std.specs.Prelude.{◌≡◌, ◌≢◌, ℕ, ◌+◌, List, length, map, Option, None, Some}
+use Rattle.std.specs.Prelude.{◌≡◌, ◌≢◌, ℕ, ◌+◌, ◌≤◌, List, length, map, Option, None, Some}
 use Rattle.std.specs.List.{flat_map}
 use Rattle.std.specs.Io.KnownBytes.{append_known}
 use mathlib.Core.Option.{some}
@@ -13,6 +13,7 @@ use Rattle.board_jobs.specs.Ends.{caller_at}
 use Rattle.board_jobs.specs.Rooms.{HaveHadRoom}
 use Rattle.board_jobs.specs.Enough.{ArePagesEnough, AreChainsEnough}
 use Rattle.board_jobs.specs.Printed.{lines_by, printed}
+use Rattle.board_jobs.specs.Pruning.{HasPruned}
 use Rattle.board_jobs.specs.Telling.{entries_in}
 use Rattle.outside.specs.Files.{File}
 use Rattle.command_words.specs.Tasks.{Task, run_of}
@@ -26,8 +27,9 @@ pub record HasPrinted (shape : Shape) (done : List Done) (i : ℕ) (a : Account)
 
 -- the text is a run's; each record that took words of its loader's region had room there; the history of the report's rules is that of
 -- the board that was closed, and the text prints its log; and each caller's account, which is true of that history, of the room that it
--- has left and of the pages, has what the caller's lines print, and nothing else. A line tells that no page was left, or that a
--- chain was full, only where the shape is small for the atoms that were loaded. How many rows a search loaded is said of each answer of a group, and not yet of the whole run
+-- has left and of the pages, has what the caller's lines print, and nothing else. A line tells that no page was left, or that a chain
+-- was full, only where the shape is small for the atoms that were loaded. A searcher's account, which comes after those of the loaders,
+-- has loaded nothing past its last answer; what it has loaded for each search is pruned; and the rows that its lines print are those
 pub record IsRunOf (told : Option (List File)) (script : List ℕ) (shape : Shape) (budget : ℕ) (text : List ℕ) (last : Closing) : Type 0 where
   pub run : IsRunText told script shape budget text
   pub rooms : HaveHadRoom shape (flat_map done_lines run.is_report.told.done)
@@ -39,6 +41,8 @@ pub record IsRunOf (told : Option (List File)) (script : List ℕ) (shape : Shap
   pub settled : IsSettled last
   pub count : length last.accounts ≡ shape.loaders + shape.searchers
   pub each : (i : ℕ) (a : Account) → get_elem? last.accounts i ≡ some a → HasPrinted shape run.is_report.told.done i a
+  pub pruned : (i : ℕ) (a : Account) → shape.loaders ≤ i → get_elem? last.accounts i ≡ some a
+      → HasPruned (lines_by (caller_at shape i) (flat_map done_lines run.is_report.told.done)) a
 
 -- a board is answered exactly at status 0, and the text that was written is that of the run on it
 abbrev pub IsLastOf : Option (List File) → List ℕ → Shape → ℕ → SinkSeen → SinkSeen → ℕ → Option Closing → Type 0

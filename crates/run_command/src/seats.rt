@@ -1,7 +1,7 @@
 // A board is opened with a worker for each of its callers, and closed with them.
 ghost use Rattle.std.specs.Prelude.{◌≡◌, ◌≤◌, [], length, IfOk, vec_capacity};
 ghost use Rattle.htss_defs.specs.Shapes.{IsShape};
-ghost use Rattle.board.specs.Closed.{IsSettled};
+ghost use Rattle.board.specs.Closed.{IsSettled, IsShown};
 ghost use Rattle.board_jobs.specs.Groups.{AreNew};
 ghost use Rattle.script_run.specs.Working.{AreCallers};
 ghost use Rattle.script_run.specs.Workers.{callers_of, accounts_of};
@@ -71,6 +71,7 @@ pub fn close(board: Board, workers: Vec<Worker<Apart>>, seats: Vec<Caller>) -> F
     ensures accounts { result.accounts ≡ accounts_of workers.items }
     ensures end { HasEnd board.shape (accounts_of workers.items) result.history }
     ensures settled { IsSettled result }
+    ensures shown { IsShown result }
 {
     let last = gather(board, callers_back(workers, seats));
     last.is_settled();

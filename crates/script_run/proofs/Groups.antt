@@ -31,6 +31,8 @@ use Rattle.script_run.specs.Workers.{accounts_of, callers_of}
 use Rattle.script_run.specs.Working.{AreCallers, OwnBroken, OwnDone}
 use Rattle.script_run.proofs.Callers.{have_met, still_callers, who_there}
 use Rattle.script_run.proofs.Merges.{blocks_in, same_places}
+use Rattle.board_jobs.specs.Pruning.{SearchersStayPruned}
+use Rattle.board_jobs.proofs.Rested.{group_pruned}
 use Rattle.script_run.proofs.Places.{IsSeat, agree, loader_seat, one_there, or_there, searcher_seat, there}
 use Rattle.script_run.proofs.Queues.{merged_mapped, merged_queues, one_merged}
 use Rattle.script_run.proofs.Together.{AreOwn, together}
@@ -293,3 +295,12 @@ module _ {G : Type 0} where
         record { dealt_are = are.dealt_are; by_files = are.by_files; between = accounts_of xs; jobs = are.are_done; met = have_met xs ys met },
         one_merged (places_from b.shape 0 0 group.jobs) (map blocks_in os) blocks (map done_block are.done) merged are.merged,
       )
+
+  -- what searchers have loaded is pruned
+  pub group_prunes : (b : Place) (files : List (ℕ × List ℕ)) (budget : ℕ) (group : Group) (ws xs ys : List (Worker G)) (os : List Outcome)
+      → IsShape b.shape → AreCallers b (callers_of ws) → AreCallers b (callers_of ys) → DidAll b files budget group.jobs (callers_of ws) (callers_of xs) os → All (λ (o : Outcome). o.whole ≡ true) os
+      → SawMost (callers_of xs) (callers_of ys) → SearchersStayPruned b.shape (accounts_of ws) (accounts_of ys)
+  group_prunes b files budget group ws xs ys os shape all last did whole met =
+      let are = all_done b files budget 0 group.jobs ws xs os shape all did whole in
+      group_pruned b.shape (accounts_of ws) files budget 0 group (accounts_of ys) met.most are.done shape (as_many_accounts ys ∙ last.count)
+      (record { dealt_are = are.dealt_are; by_files = are.by_files; between = accounts_of xs; jobs = are.are_done; met = have_met xs ys met })

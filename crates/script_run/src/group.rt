@@ -5,6 +5,7 @@ ghost use Rattle.report_rules.specs.Reports.{Done, done_block};
 ghost use Rattle.board_jobs.specs.Ends.{HaveGoneOn};
 ghost use Rattle.board_jobs.specs.Groups.{GroupIsDone};
 ghost use Rattle.board_jobs.specs.Jobs.{IsThere};
+ghost use Rattle.board_jobs.specs.Pruning.{SearchersStayPruned};
 ghost use Rattle.script_run.specs.Working.{AreCallers};
 ghost use Rattle.script_run.specs.Walking.{GroupIsBroken};
 ghost use Rattle.script_run.specs.Workers.{accounts_of, callers_of};
@@ -71,6 +72,10 @@ pub fn run_group<R: Threads + Wait + Sync, G: Gate + Send>(
         × (blocks.items ≡ map done_block done)) }
     ensures broken { IfErr result (λ _. HaveGoneOn board.now.shape (accounts_of workers.old) (accounts_of workers.new)) }
     ensures begun { IfErr result (λ _. GroupIsBroken board.now.shape files.now budget group.now (accounts_of workers.old) (accounts_of workers.new)) }
+
+    // A searcher that had loaded nothing since its last answer has loaded nothing since its last one now, and what it has loaded for each
+    // search is pruned.
+    ensures pruned { IfOk result (λ _. SearchersStayPruned board.now.shape (accounts_of workers.old) (accounts_of workers.new)) }
 
     // Each worker's gate was told where it stood before and after each of its jobs, and nothing else.
     ensures gates { IfOk result (λ _. GatesPassed G.passed board.now.shape group.now.jobs workers.old workers.new) }

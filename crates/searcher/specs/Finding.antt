@@ -1,4 +1,4 @@
--- What a descent leaves of a caller's account, and what it has found.
+-- What a descent leaves of a caller's account, and what it has found (this project's own).
 use Rattle.std.specs.Prelude.{◌≡◌, ℕ, List, [], ◌++◌, map, length}
 use Rattle.htss_defs.specs.declared.shape.Shape.{Shape}
 use Rattle.htss_defs.specs.declared.needs.Need.{Need}

@@ -21,4 +21,4 @@ gather-last-requires-clause-callers c = subst (λ (l : List Seated). Each (IsAtR
 pub returns : goal.returns
 returns c =
     let closed = closed_with c.args.board c.args.workers.items c.gather-last.result c.requires.callers c.gather-last.ensures.shape (c.gather-last.ensures.accounts ∙ ap (map account_of) c.callers_back.ensures) c.is_settled.ensures.settled c.is_settled.ensures.shown in
-    record { shape = closed.shape_is; accounts = closed.accounts_are; end = closed.end; settled = closed.settled }
+    record { shape = closed.shape_is; accounts = closed.accounts_are; end = closed.end; settled = closed.settled; shown = closed.shown }

@@ -26,7 +26,7 @@ returns-in-Ok-append_history-clause-text g c =
     let accounts = accounts_of c.run_groups-outcome.new.workers in
     let closed = closed_back c.in-Ok.opened.0 c.in-Ok.opened.1.len c.run_groups-outcome.new.workers c.in-Ok.opened.1.items
     c.in-Ok.opened.1.ok.0 c.in-Ok.ensures.callers c.run_groups-outcome.ensures.callers c.args.shape c.close-last.result c.in-Ok.ensures.shape
-    c.close-last.ensures.shape c.close-last.ensures.accounts c.close-last.ensures.end c.close-last.ensures.settled in
+    c.close-last.ensures.shape c.close-last.ensures.accounts c.close-last.ensures.end c.close-last.ensures.settled c.close-last.ensures.shown in
     let done = subst (λ (k : Shape). HasDone told c.args.groups.now k c.args.budget accounts c.run_groups-outcome.new.text.items) c.in-Ok.ensures.shape
     (c.in-Ok-outcome.ensures.done script read) in
     run_is told script c.args.groups.now c.args.shape c.args.budget accounts c.run_groups-outcome.new.text.items c.append_history.new.text.items c.close-last.result
