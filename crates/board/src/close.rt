@@ -70,11 +70,11 @@ fn close(board: Board, seat: Seat<(), View>) -> Final
 /// Closes the board, with what its callers know: all of them are handed in, unpinned and without the lock.
 pub fn gather(board: Board, mut callers: Vec<Caller>) -> Final
     requires count { length callers.items ≡ board.shape.loaders + board.shape.searchers }
-    requires some { 0 < length callers.items }
     requires callers { Each (IsAtRest board) callers.items }
     ensures shape { result.shape ≡ board.shape }
     ensures accounts { result.accounts ≡ map account_of callers.items }
 {
+    let _within_limits = board.shape();
     let Caller { mut seat, .. } = callers.remove(0);
     while !callers.is_empty() {
         let other = callers.remove(0);

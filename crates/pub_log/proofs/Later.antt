@@ -16,9 +16,9 @@ use Rattle.board_core.specs.declared.account.Who.TheVariants.{Opener, Loader, Se
 use Rattle.board_core.specs.declared.entry.Entry.{Entry}
 use Rattle.board_core.specs.declared.entry.Entry.TheVariants.{Published, Withdrawn, Answered, Unknown, Gone as Ended, LogFull, DataFull, NoPage, ChainFull, Swept}
 use Rattle.board_core.specs.declared.entry.Noted.{Noted}
-use Rattle.board_core.specs.Each.{In, sum_of}
+use Rattle.board_core.specs.Each.{Each, In, sum_of}
 use Rattle.board_core.specs.Words.{Parts}
-use Rattle.board_core.specs.Accounts.{total, accounts_in, seat_of, is_seat}
+use Rattle.board_core.specs.Accounts.{total, accounts_in, seat_of, is_seat, EachAccount}
 use Rattle.board_core.specs.Histories.{caller_of, numbered, events_by}
 use Rattle.board_core.specs.Truths.{IsTrueLog, told_by, told_in, own_events}
 use Rattle.board_core.specs.SeatRule.{SeatRule, WhoFits, made}
@@ -26,7 +26,7 @@ use Rattle.board_core.specs.LogRule.{IsByLoader}
 use Rattle.board_core.specs.RoomRule.{SomeAccount}
 use Rattle.board_core.specs.Holds.{Rule}
 use Rattle.board_core.proofs.Callers.{seat_that}
-use Rattle.pub_log.specs.Later.{GoesOn, LawOfHistory}
+use Rattle.pub_log.specs.Later.{GoesOn, LawOfHistory, LawOfLastHistory}
 
 -- ---- the loader's account is there
 
@@ -137,8 +137,13 @@ was_made k p h vs i e r at = dite (dec_le (caller_of e) (made vs))
     (λ so_many. so_many)
     (λ not. absurd (nothing_in (1 + i, e) (subst (In (1 + i, e)) (r.stories.none_before (caller_of e) (lt_of_not-le not)) (listed h (caller_of e) 1 i e at refl))))
 
-pub begins_with : LawOfHistory
-begins_with k p q earlier later vs ws r s goes_on = begins earlier later (λ i e at.
+-- the same caller's account goes on, with entries that are true of this history
+abbrev GoesOnIn : Shape → List Event → Account → Type 0
+GoesOnIn k h a = (b : Account) × GoesOn a b × Each (λ n. IsTrueLog k h n.entry) b.entries
+
+stays : (k other : Shape) (p : Parts) (earlier later : List Event) (vs : List View) → Rule k p earlier vs
+    → EachAccount (λ a. (loader : ℕ) → a.who ≡ Loader loader → GoesOnIn other later a) vs → take (length earlier) later ≡ earlier
+stays k other p earlier later vs r goes_on = begins earlier later (λ i e at.
     let c : ℕ = caller_of e in
     let by : IsByLoader k e = r.log.callers i e (element earlier i e at) in
     let owner = loader_there k vs c r.seats by.0 by.1 (was_made k p earlier vs i e r at) in
@@ -148,9 +153,16 @@ begins_with k p q earlier later vs ws r s goes_on = begins earlier later (λ i e
     let told : events_by c earlier ≡ told_in a.entries = sym (ap (own_events earlier) who) ∙ story.own in
     let entry = entry_in a.entries (1 + i, e) (subst (In (1 + i, e)) told (listed earlier c 1 i e at refl)) in
     let next = goes_on owner.0 owner.1 owner.2 owner.3 a owner.5 c who in
-    let b : Account = next.4 in
-    let on : GoesOn a b = next.6 in
-    let still = s.stories.stories next.0 next.1 next.2 next.3 b next.5 in
-    let has : HasEvent later (1 + i) e = told_true k later entry.1.entry (1 + i, e) entry.3 (still.each entry.0 entry.1 (on.entries entry.0 entry.1 entry.2)) in
+    let has : HasEvent later (1 + i) e = told_true other later entry.1.entry (1 + i, e) entry.3 (next.2 entry.0 entry.1 (next.1.entries entry.0 entry.1 entry.2)) in
     let place : 1 + i - 1 ≡ i = omega arith in
     subst (λ n. slice_get later n ≡ Some e) place has.1)
+
+pub begins_with : LawOfHistory
+begins_with k p q earlier later vs ws r s goes_on = stays k k p earlier later vs r (λ j v there i a here loader who.
+    let next = goes_on j v there i a here loader who in
+    (next.4, next.6, (s.stories.stories next.0 next.1 next.2 next.3 next.4 next.5).each))
+
+pub ends_with : LawOfLastHistory
+ends_with k p earlier vs last r settled goes_on = stays k last.shape p earlier last.history vs r (λ j v there i a here loader who.
+    let next = goes_on j v there i a here loader who in
+    (next.1, next.3, (settled.stories next.0 next.1 next.2).each))

@@ -9,12 +9,6 @@ use Rattle.run_command.proofs.seats.close.Goals as goal
 pub gather-last-requires-clause-count : goal.gather-last-requires-clause-count
 gather-last-requires-clause-count c = subst (λ (l : List Seated). length l ≡ c.args.board.shape.loaders + c.args.board.shape.searchers) (sym c.callers_back.ensures) c.requires.callers.count
 
-pub gather-last-requires-clause-some : goal.gather-last-requires-clause-some
-gather-last-requires-clause-some c =
-    let some_loader = (c.requires.shape Loaders).0 in
-    let count = ap length c.callers_back.ensures ∙ c.requires.callers.count in
-    omega (arith, some_loader, count)
-
 pub gather-last-requires-clause-callers : goal.gather-last-requires-clause-callers
 gather-last-requires-clause-callers c = subst (λ (l : List Seated). Each (IsAtRest c.args.board) l) (sym c.callers_back.ensures) (at_rest c.args.board (callers_of c.args.workers.items) c.requires.callers)
 
