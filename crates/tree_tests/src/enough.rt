@@ -74,8 +74,11 @@ fn enough_for(rows: u32, loaders: u8) -> u32 {
 }
 
 fn rows_in(sketches: &[Sketch]) -> u32 {
-    let rows: usize = sketches.iter().map(|sketch| sketch.elements.len()).sum();
-    rows as u32
+    let mut rows = 0u32;
+    for sketch in sketches {
+        rows = rows.saturating_add(sketch.elements.len().min(999) as u32);
+    }
+    rows
 }
 
 // No record is refused.
