@@ -13,6 +13,11 @@ const FORTY: Given<'static> = Given {
     parts: &[CARBON; 40],
 };
 
+const FIFTEEN_COPIES: Given<'static> = Given {
+    name: "copies.sdf",
+    parts: &[CARBON; 15],
+};
+
 const FRONT: &str =
     "x\n\n\n  1  0  0  0  0  0  0  0  0  0999 V2000\n    0.0000    0.0000    0.0000 ";
 
@@ -132,6 +137,86 @@ const TWENTY_EIGHT: Load = Load {
     ],
 };
 
+// For 15 rows and one loader 70 x 15 + 33 + 1 pages may be wanted at most, which is one less than there are.
+const FIFTEEN_IN_ENOUGH_PAGES: Load = Load {
+    file: FIFTEEN_COPIES,
+    script: "load copies.sdf\n",
+    words: &["run", "s.txt", "--loaders", "1", "--pages", "1085"],
+    events: 15,
+    report: &[
+        Span {
+            first: 0,
+            until: 1,
+            text: "htss 1 loaders 1 searchers 2 pages 1085 room 4194304 log 1048576 chain 65535 budget 10000000000\n",
+        },
+        Span {
+            first: 0,
+            until: 1,
+            text: "load 1 copies.sdf\n",
+        },
+        Span {
+            first: 1,
+            until: 16,
+            text: "published # c\n",
+        },
+        Span {
+            first: 0,
+            until: 1,
+            text: "loaded 15\nlog 15\n",
+        },
+        Span {
+            first: 1,
+            until: 16,
+            text: "event # publish 1 1 0 c\n",
+        },
+        Span {
+            first: 0,
+            until: 1,
+            text: "end\n",
+        },
+    ],
+};
+
+// Forty rows fill no chain of six pages: seven rows for each page are more than there are.
+const FORTY_IN_SHORT_CHAINS: Load = Load {
+    file: FORTY,
+    script: "load forty.sdf\n",
+    words: &["run", "s.txt", "--chain", "6"],
+    events: 40,
+    report: &[
+        Span {
+            first: 0,
+            until: 1,
+            text: "htss 1 loaders 2 searchers 2 pages 1048576 room 4194304 log 1048576 chain 6 budget 10000000000\n",
+        },
+        Span {
+            first: 0,
+            until: 1,
+            text: "load 1 forty.sdf\n",
+        },
+        Span {
+            first: 1,
+            until: 41,
+            text: "published # c\n",
+        },
+        Span {
+            first: 0,
+            until: 1,
+            text: "loaded 40\nlog 40\n",
+        },
+        Span {
+            first: 1,
+            until: 41,
+            text: "event # publish 1 1 0 c\n",
+        },
+        Span {
+            first: 0,
+            until: 1,
+            text: "end\n",
+        },
+    ],
+};
+
 // Sixteen pages: the root with a second page in its chain, and a leaf for each of fourteen first codes.
 const FOURTEEN: Load = Load {
     file: FIFTEEN,
@@ -205,6 +290,12 @@ fn is_loaded<R: Threads + Wait + Sync + Abort>(
 fn forty_copies(rt: HostRuntime) -> Result<(), Fail> {
     is_loaded(&rt, rt.alloc(), &ALL_FORTY)?;
     is_loaded(&rt, rt.alloc(), &TWENTY_EIGHT)
+}
+
+#[test]
+fn enough_pages(rt: HostRuntime) -> Result<(), Fail> {
+    is_loaded(&rt, rt.alloc(), &FIFTEEN_IN_ENOUGH_PAGES)?;
+    is_loaded(&rt, rt.alloc(), &FORTY_IN_SHORT_CHAINS)
 }
 
 #[test]
