@@ -41,6 +41,6 @@ pub use steps::{
 };
 pub use swept::{Sweeps, note_swept};
 pub use tree::{
-    begin_row, begin_walk, claim_code, claim_entry, link_leaf, link_next_inner, link_next_leaf, load_header,
-    load_link, load_more, load_own_code, load_own_head, load_slot, store_own_word,
+    begin_row, begin_walk, claim_code, claim_entry, link_leaf, link_next_inner, link_next_leaf,
+    load_header, load_link, load_more, load_own_code, load_own_head, load_slot, store_own_word,
 };

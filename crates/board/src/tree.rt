@@ -22,8 +22,8 @@ ghost use Rattle.board.specs.Seated.{IsOf, with_account};
 use crate::blocks::Coded;
 use crate::places::{code_place, page_place};
 use crate::plays::{
-    BeginRow, BeginWalk, ClaimWord, LoadHeader, LoadLink, LoadMore, LoadOwnCode, LoadOwnHead, LoadSlot,
-    StoreOwn,
+    BeginRow, BeginWalk, ClaimWord, LoadHeader, LoadLink, LoadMore, LoadOwnCode, LoadOwnHead,
+    LoadSlot, StoreOwn,
 };
 use crate::{Board, Caller};
 use board_core::Row;
