@@ -5,3 +5,15 @@ pub mod TallyTests
 pub mod Laying
 pub mod Zips
 pub mod Naming
+pub mod Namings
+pub mod Markings
+pub mod Taking
+pub mod TellEvents
+pub mod Carrying
+pub mod LoadMore
+pub mod BlockKept
+pub mod Turning
+pub mod Auditing
+pub mod Keeping
+pub mod Founds
+pub mod Verdicts

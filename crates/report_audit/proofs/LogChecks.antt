@@ -19,7 +19,7 @@ use Rattle.report_audit.specs.Logs.{IsOpen, IsPublication, IsSoundLog, MayFollow
 
 -- ---- the history that lines tell
 
-length_told : (named : List (ℕ × Molecule)) (first : ℕ) (lines : List LogLine) → length (told_from named first lines) ≡ length lines
+pub length_told : (named : List (ℕ × Molecule)) (first : ℕ) (lines : List LogLine) → length (told_from named first lines) ≡ length lines
 length_told named first [] = refl
 length_told named first (line ∷ lines) = ap suc (length_told named (first + 1) lines)
 
@@ -37,7 +37,7 @@ told_push named first (one ∷ lines) line =
     ap (λ (l : List Event). told_event named first one ∷ l)
     (told_push named (first + 1) lines line ∙ ap (λ (n : ℕ). told_from named (first + 1) lines ++ told_event named n line ∷ []) e)
 
-get_told : (named : List (ℕ × Molecule)) (first : ℕ) (lines : List LogLine) (k : ℕ) (line : LogLine) → slice_get lines k ≡ Some line → slice_get (told_from named first lines) k ≡ Some (told_event named (first + k) line)
+pub get_told : (named : List (ℕ × Molecule)) (first : ℕ) (lines : List LogLine) (k : ℕ) (line : LogLine) → slice_get lines k ≡ Some line → slice_get (told_from named first lines) k ≡ Some (told_event named (first + k) line)
 get_told named first [] k line at = absurd cc
 get_told named first (one ∷ lines) zero line at =
     let same : one ≡ line = cc at in
@@ -47,7 +47,7 @@ get_told named first (one ∷ lines) (suc k) line at =
     let e : first + 1 + k ≡ first + suc k = omega arith in
     get_told named (first + 1) lines k line at ∙ ap (λ (n : ℕ). Some (told_event named n line)) e
 
-back_told : (named : List (ℕ × Molecule)) (first : ℕ) (lines : List LogLine) (k : ℕ) (e : Event) → slice_get (told_from named first lines) k ≡ Some e → (line : LogLine) × (slice_get lines k ≡ Some line) × (told_event named (first + k) line ≡ e)
+pub back_told : (named : List (ℕ × Molecule)) (first : ℕ) (lines : List LogLine) (k : ℕ) (e : Event) → slice_get (told_from named first lines) k ≡ Some e → (line : LogLine) × (slice_get lines k ≡ Some line) × (told_event named (first + k) line ≡ e)
 back_told named first [] k e at = absurd cc
 back_told named first (one ∷ lines) zero e at =
     let same : told_event named first one ≡ e = cc at in
@@ -66,7 +66,7 @@ get_take (x ∷ xs) (suc n) zero less = refl
 get_take (x ∷ xs) (suc n) (suc k) less = get_take xs n k (omega (arith, less))
 
 -- a line of a publication tells one
-published_told : (named : List (ℕ × Molecule)) (lines : List LogLine) (number : ℕ) → 1 ≤ number → IsPublication (slice_get lines (number - 1)) → IsPublished (told_from named 1 lines) number
+pub published_told : (named : List (ℕ × Molecule)) (lines : List LogLine) (number : ℕ) → 1 ≤ number → IsPublication (slice_get lines (number - 1)) → IsPublished (told_from named 1 lines) number
 published_told named lines number some is = go (slice_get lines (number - 1)) refl is
   where
     go : (at : Option LogLine) → slice_get lines (number - 1) ≡ at → IsPublication at → IsPublished (told_from named 1 lines) number
@@ -75,7 +75,7 @@ published_told named lines number some is = go (slice_get lines (number - 1)) re
     go (Some (log.Publish loader atoms bonds name)) at is =
         (name, molecule_named named (1 + (number - 1)), record { caller = loader; event = (some, get_told named 1 lines (number - 1) (log.Publish loader atoms bonds name) at) })
 
-publication_line : (named : List (ℕ × Molecule)) (lines : List LogLine) (number : ℕ) (name : List ℕ) (mol : Molecule) → Publishes (told_from named 1 lines) number name mol → IsPublication (slice_get lines (number - 1))
+pub publication_line : (named : List (ℕ × Molecule)) (lines : List LogLine) (number : ℕ) (name : List ℕ) (mol : Molecule) → Publishes (told_from named 1 lines) number name mol → IsPublication (slice_get lines (number - 1))
 publication_line named lines number name mol p =
     let (line, there, same) = back_told named 1 lines (number - 1) (Publish p.caller name mol) p.event.1 in
     subst IsPublication (sym there) (go line same)

@@ -45,6 +45,15 @@ new_molecule (first ∷ named) one number is = go (number == first.0) is (λ res
     go true is rest = absurd cc
     go false is rest = rest is
 
+-- an event that no line names
+pub unnamed_molecule : (named : List (ℕ × Molecule)) (number : ℕ) → is_named named number ≡ false → molecule_named named number ≡ no_molecule
+unnamed_molecule [] number is = refl
+unnamed_molecule (first ∷ named) number is = go (number == first.0) is (λ rest. unnamed_molecule named number rest)
+  where
+    go : (b : Bool) → (b || is_named named number) ≡ false → (is_named named number ≡ false → molecule_named named number ≡ no_molecule) → (if b then first.1 else molecule_named named number) ≡ no_molecule
+    go true is rest = absurd cc
+    go false is rest = rest is
+
 either : (a b : Bool) → a ≡ true → (a || b) ≡ true
 either true b is = refl
 either false b is = absurd (false≢true is)

@@ -19,3 +19,6 @@ loads_of jobs = sum_by (λ job. dealing.loads_in job.order) jobs
 
 abbrev pub searches_of : List Job → ℕ
 searches_of jobs = sum_by (λ job. dealing.searches_in job.order) jobs
+
+abbrev pub job_of : LaidJob → Job
+job_of laid = laid.job.now

@@ -3,3 +3,8 @@ pub mod Callers
 pub mod Tallied
 pub mod Reads
 pub mod Named
+pub mod Telling
+pub mod Audits
+pub mod SoFars
+pub mod LineChecks
+pub mod BlockChecks

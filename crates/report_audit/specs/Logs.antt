@@ -40,3 +40,8 @@ with_event (Withdraw loader number) withdrawals = set (withdrawals ++ 0 ∷ []) 
 abbrev pub HasPlace : LogLine → List ℕ → Type 0
 HasPlace (Publish loader atoms bonds name) withdrawals = Unit {0}
 HasPlace (Withdraw loader number) withdrawals = (1 ≤ number) × (number ≤ length withdrawals)
+
+-- the line tells a withdrawal of the target
+abbrev pub IsEndOf : LogLine → ℕ → Type 0
+IsEndOf (Publish loader atoms bonds name) target = ⊥
+IsEndOf (Withdraw loader number) target = number ≡ target

@@ -1,7 +1,15 @@
 -- Which record each event is named by, as the code has it.
-use Rattle.std.specs.Prelude.{◌≡◌, ℕ, ◌+◌, ◌<◌, List, [], ◌∷◌, length, slice_index_or, Bool, true, false, ◌==◌, ◌||◌}
+use Rattle.std.specs.Prelude.{◌≡◌, ◌⊎◌, ℕ, ◌+◌, ◌<◌, List, [], ◌∷◌, length, slice_index_or, Bool, true, false, ◌==◌, ◌||◌, Option, Some, None}
 use Rattle.htss_defs.specs.Molecule.{Molecule}
-use Rattle.report_rules.specs.Faults.{molecule_named, no_molecule}
+use Rattle.script_text.specs.declared.script.Order.{Order}
+use Rattle.report_text.specs.declared.report.Block.{Block}
+use Rattle.report_text.specs.declared.report.Block.TheVariants as block
+use Rattle.report_text.specs.declared.report.LoadLine.{LoadLine}
+use Rattle.report_rules.specs.Dealing.{Dealt}
+use Rattle.report_rules.specs.Faults.{IsBlockFor, IsNamedIn, molecule_named, no_molecule}
+use Rattle.report_audit.specs.declared.reads.JobRead.{JobRead}
+use Rattle.report_audit.specs.declared.reads.JobRead.TheVariants.{Records, Asked, Nothing}
+use Rattle.report_audit.specs.declared.records.RecordRead.{RecordRead}
 use Rattle.report_audit.specs.declared.names.Namer.{Namer}
 use Rattle.report_audit.specs.declared.names.Namer.TheVariants.{Nobody, NoRecord, Record}
 
@@ -25,3 +33,23 @@ abbrev pub IsWith : Molecule → Namer → Type 0
 IsWith mol Nobody = ⊥
 IsWith mol NoRecord = mol ≡ no_molecule
 IsWith mol (Record one) = mol ≡ one.now
+
+-- the records that a file was read as, and the lines of a block
+abbrev pub records_in : JobRead → List RecordRead
+records_in (Records records) = records.items
+records_in (Asked outcome) = []
+records_in Nothing = []
+
+abbrev pub lines_in : Block → List LoadLine
+lines_in (block.Load line file lines) = lines
+lines_in (block.Withdraw line number answer) = []
+lines_in (block.Search line file answer) = []
+
+-- the lines of the block, where it is that of this job
+abbrev pub AreLinesFor : ℕ → Order → Block → List LoadLine → Type 0
+AreLinesFor line order here lines = (IsBlockFor line order here × (lines ≡ lines_in here)) ⊎ ((IsBlockFor line order here → ⊥) × (lines ≡ []))
+
+-- what the block names, if one stands there
+abbrev pub IsNamedAt : List (ℕ × List ℕ) → Dealt → Option Block → List (ℕ × Molecule) → Type 0
+IsNamedAt files one None named = named ≡ []
+IsNamedAt files one (Some here) named = IsNamedIn files one here named
