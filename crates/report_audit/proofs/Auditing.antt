@@ -1,5 +1,5 @@
 -- The lines of blocks, and what is found at the end.
-use Rattle.std.proofs.Common.{◌≡◌, ◌⊎◌, inl, inr, ℕ, zero, suc, ◌+◌, ◌-◌, ◌<◌, ◌≤◌, Bool, List, [], ◌∷◌, ◌++◌, length, map, take, All, sum_by, refl, sym, ap, subst, ◌∙◌, arith}
+use Rattle.std.proofs.Common.{min, ◌^◌, ◌≡◌, ◌⊎◌, inl, inr, ℕ, zero, suc, ◌+◌, ◌-◌, ◌<◌, ◌≤◌, Bool, List, [], ◌∷◌, ◌++◌, length, map, take, All, sum_by, refl, sym, ap, subst, ◌∙◌, arith}
 use Rattle.std.specs.Prelude.{Option, Some, None, Contains, slice_get, slice_index_or}
 use Rattle.std.specs.List.{flat_map}
 use Rattle.std.proofs.lemmas.List.{map-append, take_all}
@@ -113,6 +113,9 @@ rule_fault s jobs blocks index offset line is line_is = record {
   line_is = line_is ∙ ap (λ (n : ℕ). line_after (take n blocks) + offset) (sym is.count_is);
   here = subst (λ (n : ℕ). IsBlockFault s (flat_map done_lines is.done) (slice_get jobs n) (slice_get blocks n) offset) (sym is.count_is) is.here;
 }
+
+pub unsaturated : (r a b : ℕ) → r ≡ min (a + b) (2 ^ 64 - 1) → a + b < 2 ^ 64 → r ≡ a + b
+unsaturated r a b is less = grind (arith, is, less)
 
 pub lines_push : (blocks : List Block) (here : Block) → line_after (blocks ++ here ∷ []) ≡ line_after blocks + block_length here
 lines_push blocks here = omega (arith, sum_by-append block_length blocks (here ∷ []), sum_by-cons block_length here [])

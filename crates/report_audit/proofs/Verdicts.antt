@@ -1,13 +1,19 @@
 -- What an audit finds, by its parts.
 use Rattle.std.proofs.Common.{◌≡◌, ◌⊎◌, inl, inr, ℕ, ◌+◌, ◌<◌, ◌≤◌, List, length, map, refl, ap, sym, subst, ◌∙◌}
 use Rattle.std.specs.List.{AllZip}
+use Rattle.std.specs.Prelude.{Option, Some, None, Bool, true, false, is_some, IfNone, IfSome}
+use Rattle.std.proofs.lemmas.Bool.{false≢true}
 use Rattle.htss_defs.specs.declared.history.Event.{Event}
-use Rattle.htss_defs.specs.Shapes.{IsShape}
+use Rattle.htss_defs.specs.Molecule.{Molecule}
+use Rattle.htss_defs.specs.declared.shape.Field.{Field}
+use Rattle.htss_defs.specs.declared.shape.Shape.{Shape}
+use Rattle.htss_defs.specs.Shapes.{IsFirstOutside, IsShape}
 use Rattle.reg_model.specs.Registries.{AreWithdrawals}
 use Rattle.script_text.specs.declared.script.Group.{Group}
+use Rattle.report_text.specs.declared.report.Block.{Block}
 use Rattle.report_text.specs.declared.report.Report.{Report}
-use Rattle.report_rules.specs.Dealing.{dealt}
-use Rattle.report_rules.specs.Faults.{IsEventFault, IsFirstFault, IsLogUpTo, IsRuleFault, IsTold, IsUnnamed, line_of_event, line_of_log, setting_of, told_from}
+use Rattle.report_rules.specs.Dealing.{Dealt, dealt}
+use Rattle.report_rules.specs.Faults.{AreNamed, IsEventFault, IsFirstFault, IsLogUpTo, IsRuleFault, IsTold, IsUnnamed, line_of_event, line_of_log, setting_of, told_from}
 use Rattle.report_audit.specs.declared.jobs.LaidJob.{LaidJob}
 use Rattle.report_audit.specs.declared.names.Namer.{Namer}
 use Rattle.report_audit.specs.declared.reads.JobRead.{JobRead}
@@ -86,3 +92,30 @@ turns_of script files report jobs reads table withdrawals case told turns sound 
   jobs_are = ap (map (dealt_by report.shape)) jobs_is ∙ case.jobs_are report.shape;
   reads_are = subst (λ (js : List LaidJob). AllZip (IsReadOf files) js turns.reads.now) (sym jobs_is) (subst (λ (rs : List JobRead). AllZip (IsReadOf files) jobs rs) (sym reads_is) case.reads_are);
 }
+
+pub outside_from : (shape : Shape) (o : Option Field) → is_some o ≡ true → IfSome o (λ field. IsFirstOutside shape field) → IsShape shape → ⊥
+outside_from shape (Some field) some is within = is.here (within field)
+outside_from shape None some is within = false≢true some
+
+pub within_from : (shape : Shape) (o : Option Field) → is_some o ≡ false → IfNone o (IsShape shape) → IsShape shape
+within_from shape (Some field) none is = absurd (false≢true (sym none))
+within_from shape None none is = is
+
+-- the parts of a case, each as it was handed on
+pub case_of : (script groups : List Group) (files : List (ℕ × List ℕ)) (report : Report) (blocks : List Block) (j0 j1 j2 j4 : List LaidJob) (r0 r3 r5 : List JobRead) (t0 t6 : List Namer)
+    → groups ≡ script → blocks ≡ report.blocks → j1 ≡ j0 → j2 ≡ j0 → j4 ≡ j0 → r3 ≡ r0 → r5 ≡ r0 → t6 ≡ t0
+    → ((shape : Shape) → map (dealt_by shape) j0 ≡ dealt shape 1 groups) → AllZip (IsReadOf files) j1 r0
+    → (AllZip (IsReadOf files) j2 r3 → (named : List (ℕ × Molecule)) × AreNamed files (map (dealt_by report.shape) j2) blocks named × IsTable named t0)
+    → IsCase script files report j4 r5 t6
+case_of script groups files report blocks j0 j1 j2 j4 r0 r3 r5 t0 t6 g b e1 e2 e4 e3 e5 e6 laid read named =
+    let all : AllZip (IsReadOf files) j0 r0 = subst (λ (js : List LaidJob). AllZip (IsReadOf files) js r0) e1 read in
+    let handed : AllZip (IsReadOf files) j2 r3 = subst (λ (rs : List JobRead). AllZip (IsReadOf files) j2 rs) (sym e3) (subst (λ (js : List LaidJob). AllZip (IsReadOf files) js r0) (sym e2) all) in
+    let (names, are, table) = named handed in
+    record {
+      jobs_are = λ shape. ap (map (dealt_by shape)) e4 ∙ laid shape ∙ ap (dealt shape 1) g;
+      reads_are = subst (λ (rs : List JobRead). AllZip (IsReadOf files) j4 rs) (sym e5) (subst (λ (js : List LaidJob). AllZip (IsReadOf files) js r0) (sym e4) all);
+      named = names;
+      are_named = subst (λ (bs : List Block). AreNamed files (dealt report.shape 1 script) bs names) b
+          (subst (λ (ds : List Dealt). AreNamed files ds blocks names) (ap (map (dealt_by report.shape)) e2 ∙ laid report.shape ∙ ap (dealt report.shape 1) g) are);
+      table_is = subst (IsTable names) (sym e6) table;
+    }

@@ -1,7 +1,7 @@
 -- Two lists, member by member.
 use Rattle.std.proofs.Common.{◌≡◌, ℕ, zero, suc, ◌+◌, ◌<◌, List, [], ◌∷◌, ◌++◌, length, take, get_or, refl, sym, ap, subst, ◌∙◌, arith}
 use Rattle.std.specs.List.{AllZip}
-use Rattle.std.proofs.lemmas.List.{take_more}
+use Rattle.std.proofs.lemmas.List.{get_or_default, take_more}
 
 zip_push : {A B : Type 0} (R : A → B → Type 0) (xs : List A) (ys : List B) (x : A) (y : B) → AllZip R xs ys → R x y → AllZip R (xs ++ x ∷ []) (ys ++ y ∷ [])
 zip_push R [] [] x y all one = (one, tt)
@@ -24,3 +24,13 @@ zip_long R [] [] all = refl
 zip_long R [] (y ∷ ys) all = absurd all
 zip_long R (x ∷ xs) [] all = absurd all
 zip_long R (x ∷ xs) (y ∷ ys) all = ap suc (zip_long R xs ys all.1)
+
+-- ---- two lists that are compared
+
+pub alike_more : {A : Type 0} (one other : List A) (i : ℕ) {d e : A} → take i one ≡ take i other → i < length one → i < length other → get_or one i d ≡ get_or other i e → take (i + 1) one ≡ take (i + 1) other
+alike_more {A = A} one other i {d = d} {e = e} same less few is =
+    take_more one i d less ∙ ap (λ (l : List A). l ++ get_or one i d ∷ []) same ∙ ap (λ (x : A). take i other ++ x ∷ []) is ∙ sym (take_more other i e few)
+
+pub alike_not : {A : Type 0} (one other : List A) (i : ℕ) {d e : A} → one ≡ other → i < length one → (get_or one i d ≡ get_or other i e → ⊥) → ⊥
+alike_not {A = A} one other i {d = d} {e = e} same less not =
+    not (ap (λ (l : List A). get_or l i d) same ∙ get_or_default other i d e (omega (arith, less, ap length same)))

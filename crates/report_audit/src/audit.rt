@@ -111,7 +111,7 @@ fn first_later_fault(told: &Told<'_>, turns: &Turns<'_>) -> Result<Option<u64>, 
         return Ok(Some(line));
     }
     match first_free(&so_far.taken) {
-        Some(number) => Ok(Some(line_after(turns.blocks) + number)),
+        Some(number) => Ok(Some(line_after(turns.blocks).saturating_add(number))),
         None => Ok(None),
     }
 }

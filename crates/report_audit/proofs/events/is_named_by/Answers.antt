@@ -1,4 +1,4 @@
-use Rattle.std.proofs.Common.{◌≡◌, ◌⊎◌, inl, inr, ℕ, Bool, true, false, List, [], ◌∷◌, ap, sym, refl, subst, ◌∙◌, length, arith, eqb-eq}
+use Rattle.std.proofs.Common.{◌≡◌, ◌⊎◌, inl, inr, ℕ, Bool, true, false, List, [], ◌∷◌, ap, sym, refl, subst, ◌∙◌, length, arith}
 use Rattle.std.specs.Prelude.{◌==◌, ◌||◌, if◌then◌else◌}
 use Rattle.htss_defs.specs.Molecule.{Molecule}
 use Rattle.report_rules.specs.Faults.{molecule_named, no_molecule}
@@ -18,7 +18,7 @@ returns-in-NoRecord c =
     let long = ap length c.atoms.ensures.items in
     record {
       is = λ yes named number known. (
-          let empty = eqb-eq (length c.atoms.result.now) 0 (sym c.is_empty.ensures ∙ yes) in
+          let empty : length c.atoms.result.now ≡ 0 = grind (arith, c.is_empty.ensures, yes) in
           absurd (omega (arith, some.0, long, empty)));
       other = λ no named number known same. (
           let nothing : length c.args.mol.now.atoms ≡ 0 = ap (λ (m : Molecule). length m.atoms) (sym same ∙ none c.args.namer named number c.in-NoRecord.is known) in

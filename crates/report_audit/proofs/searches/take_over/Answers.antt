@@ -36,7 +36,7 @@ returns-then-not-check_over-clause-fault c = λ s earlier one line file own turn
     let query = c.in-Some.query.now in
     let asks_it = asks s one line file c.args.read.now query asked c.in-Some.ensures.asked in
     inr (mine, (query, asks_it, c.keeps_front.ensures.kept c.if-not-keeps_front.false s earlier one (to_search (over_at query (own_budget s one.job.order) c.args.front)) turn.next),
-    (query, asks_it, refl, λ same reply. c.check_over.ensures.within c.if-not-check_over.true s.history turn.next.tells (subst (λ (b : ℕ). IsReply query b (take c.args.front s.history) over_budget) own reply)))
+    (query, asks_it, refl, λ same reply. c.check_over.ensures.within c.if-not-check_over.true s.history turn.next.tells (subst (λ (b : ℕ). IsReply query b (take c.args.front s.history) over_budget) c.if-printed-budget.false reply)))
 
 pub returns-clause-kept : goal.returns-clause-kept
 returns-clause-kept c = λ s earlier one line file own turn mine.

@@ -6,17 +6,8 @@ use Rattle.report_rules.specs.Reports.{done_lines}
 use Rattle.report_audit.specs.BlockChecks.{IsFaultyNext, IsFaultyTurn, IsKeptNext, IsKeptTurn}
 use Rattle.report_audit.specs.Callers as callers
 use Rattle.report_audit.proofs.Founds.{ok_none, ok_some}
-use Rattle.report_audit.proofs.Turning.{block_missing, fault_at, job_missing, kept_at, turn_at}
+use Rattle.report_audit.proofs.Turning.{fault_at, kept_at, turn_at}
 use Rattle.report_audit.proofs.turns.take_turn.Goals as goal
-
-pub returns-then-index-jobs-clause-fault : goal.returns-then-index-jobs-clause-fault
-returns-then-index-jobs-clause-fault c = λ script s are has.
-    job_missing c.args.told.now c.args.turns.now script s c.args.index c.args.so_far.now c.args.turns.now.blocks.now are (omega (arith, c.if-index-jobs.true))
-    (elim c.requires.due [ | inl less ↦ absurd (omega (arith, less, c.if-index-jobs.true)) | inr less ↦ less ]) has
-
-pub returns-then-index-blocks-clause-fault : goal.returns-then-index-blocks-clause-fault
-returns-then-index-blocks-clause-fault c = λ script s are has.
-    block_missing c.args.told.now c.args.turns.now script s c.args.index c.args.so_far.now c.args.turns.now.blocks.now are (omega (arith, c.if-index-jobs.false)) (omega (arith, c.if-index-blocks.true)) has
 
 pub returns-clause-kept : goal.returns-clause-kept
 returns-clause-kept c =
