@@ -17,3 +17,7 @@ pub mod Auditing
 pub mod Keeping
 pub mod Founds
 pub mod Verdicts
+pub mod OneScreened
+pub mod LiveTold
+pub mod Surveyed
+pub mod Weighed

@@ -8,3 +8,4 @@ pub mod Audits
 pub mod SoFars
 pub mod LineChecks
 pub mod BlockChecks
+pub mod Weighing
