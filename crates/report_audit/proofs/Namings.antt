@@ -65,8 +65,14 @@ named_in files one job read (block.Load at file answers) lines same is are = go 
     go : AreLinesFor job.line job.order (block.Load at file answers) lines → IsNamedIn files one (block.Load at file answers) (namings (map outcome_of (records_in read)) lines)
     go (inl mine) =
         let (there, outcomes, looked, list, same_names) = found job.order read (bytes_at files job.line) refl is mine.0 in
-        inl (subst (λ (j : Job). IsBlockFor j.line j.order (block.Load at file answers)) (sym same) mine.0,
-            there, outcomes, looked, list, ap (namings (map outcome_of (records_in read))) mine.1 ∙ same_names)
+        inl (
+          subst (λ (j : Job). IsBlockFor j.line j.order (block.Load at file answers)) (sym same) mine.0,
+          there,
+          outcomes,
+          looked,
+          list,
+          ap (namings (map outcome_of (records_in read))) mine.1 ∙ same_names,
+        )
     go (inr other) =
         inr (subst (λ (j : Job). IsBlockFor j.line j.order (block.Load at file answers) → ⊥) (sym same) other.0, ap (namings (map outcome_of (records_in read))) other.1)
 

@@ -25,9 +25,11 @@ told_length t h tells = ap length tells.history_is ∙ length_told tells.named 1
 -- an event of the history, and its line
 pub told_at : (t : Told) (h : List Event) (tells : Tells t h) (number : ℕ) (line : LogLine) → 1 ≤ number → slice_get t.lines.now (number - 1) ≡ Some line → HasEvent h number (told_event tells.named number line)
 told_at t h tells number line some at =
-    let same : 1 + (number - 1) ≡ number = omega (arith, some) in
-    (some, ap (λ (l : List Event). slice_get l (number - 1)) tells.history_is ∙ get_told tells.named 1 t.lines.now (number - 1) line at
-    ∙ ap (λ (n : ℕ). Some (told_event tells.named n line)) same)
+    let same : 1 + (number - 1) ≡ number = omega (arith, some) in (
+      some,
+      ap (λ (l : List Event). slice_get l (number - 1)) tells.history_is ∙ get_told tells.named 1 t.lines.now (number - 1) line at
+          ∙ ap (λ (n : ℕ). Some (told_event tells.named n line)) same,
+    )
 
 pub line_at : (t : Told) (h : List Event) (tells : Tells t h) (number : ℕ) (e : Event) → HasEvent h number e → (line : LogLine) × (slice_get t.lines.now (number - 1) ≡ Some line) × (told_event tells.named number line ≡ e)
 line_at t h tells number e has =

@@ -13,14 +13,14 @@ use Rattle.script_text.specs.declared.script.Group.{Group}
 use Rattle.report_text.specs.declared.report.Block.{Block}
 use Rattle.report_text.specs.declared.report.Report.{Report}
 use Rattle.report_rules.specs.Dealing.{Dealt, dealt}
-use Rattle.report_rules.specs.Faults.{AreNamed, IsEventFault, IsFirstFault, IsLogUpTo, IsRuleFault, IsTold, IsUnnamed, line_of_event, line_of_log, setting_of, told_from}
+use Rattle.report_rules.specs.Faults.{AreNamed, IsEventFault, IsFirstFault, IsLogUpTo, IsRuleFault, IsTold, IsUnnamed, Setting, line_after, line_of_event, line_of_log, setting_of, told_from}
 use Rattle.report_audit.specs.declared.jobs.LaidJob.{LaidJob}
 use Rattle.report_audit.specs.declared.names.Namer.{Namer}
 use Rattle.report_audit.specs.declared.reads.JobRead.{JobRead}
 use Rattle.report_audit.specs.declared.told.Told.{Told}
 use Rattle.report_audit.specs.declared.turns.Turns.{Turns}
 use Rattle.report_audit.specs.Audits.{IsCase}
-use Rattle.report_audit.specs.BlockChecks.{AreTurnsOf}
+use Rattle.report_audit.specs.BlockChecks.{AreTurnsOf, IsAllKept}
 use Rattle.report_audit.specs.Callers.{dealt_by}
 use Rattle.report_audit.specs.Logs.{IsSoundLog}
 use Rattle.report_audit.specs.Named.{IsTable}
@@ -119,3 +119,11 @@ case_of script groups files report blocks j0 j1 j2 j4 r0 r3 r5 t0 t6 g b e1 e2 e
           (subst (λ (ds : List Dealt). AreNamed files ds blocks names) (ap (map (dealt_by report.shape)) e2 ∙ laid report.shape ∙ ap (dealt report.shape 1) g) are);
       table_is = subst (IsTable names) (sym e6) table;
     }
+
+-- what the check of the blocks answers
+abbrev pub IsFoundIn : Told → Turns → ℕ → Type 0
+IsFoundIn told turns line = (script : List Group) (s : Setting) → AreTurnsOf told turns script s → IsRuleFault s (dealt s.shape 1 script) turns.blocks.now line
+    ⊎ ((number : ℕ) × (line ≡ line_after turns.blocks.now + number) × IsUnnamed s (dealt s.shape 1 script) turns.blocks.now number)
+
+abbrev pub AreAllKeptIn : Told → Turns → Type 0
+AreAllKeptIn told turns = (script : List Group) (s : Setting) → AreTurnsOf told turns script s → IsAllKept s (dealt s.shape 1 script) turns.blocks.now

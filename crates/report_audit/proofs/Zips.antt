@@ -27,10 +27,10 @@ zip_long R (x ∷ xs) (y ∷ ys) all = ap suc (zip_long R xs ys all.1)
 
 -- ---- two lists that are compared
 
-pub alike_more : {A : Type 0} (one other : List A) (i : ℕ) {d e : A} → take i one ≡ take i other → i < length one → i < length other → get_or one i d ≡ get_or other i e → take (i + 1) one ≡ take (i + 1) other
-alike_more {A = A} one other i {d = d} {e = e} same less few is =
+pub alike_more : {A : Type 0} (one other : List A) (i : ℕ) (d e : A) → take i one ≡ take i other → i < length one → i < length other → get_or one i d ≡ get_or other i e → take (i + 1) one ≡ take (i + 1) other
+alike_more {A = A} one other i d e same less few is =
     take_more one i d less ∙ ap (λ (l : List A). l ++ get_or one i d ∷ []) same ∙ ap (λ (x : A). take i other ++ x ∷ []) is ∙ sym (take_more other i e few)
 
-pub alike_not : {A : Type 0} (one other : List A) (i : ℕ) {d e : A} → one ≡ other → i < length one → (get_or one i d ≡ get_or other i e → ⊥) → ⊥
-alike_not {A = A} one other i {d = d} {e = e} same less not =
+pub alike_not : {A : Type 0} (one other : List A) (i : ℕ) (d e : A) → one ≡ other → i < length one → (get_or one i d ≡ get_or other i e → ⊥) → ⊥
+alike_not {A = A} one other i d e same less not =
     not (ap (λ (l : List A). get_or l i d) same ∙ get_or_default other i d e (omega (arith, less, ap length same)))

@@ -72,7 +72,8 @@ pub record IsKeptBlock (told : Told) (so_far : SoFar) (s : Setting) (earlier : L
   pub answer : JobAnswer
   pub block_is : here ≡ block_of one.job.line answer
   pub by_file : IsByItsFile s.files s.budget (record { dealt = one; answer = answer })
-  pub rules : (first last : List Line) (line : Line) → done_lines (record { dealt = one; answer = answer }) ≡ first ++ line ∷ last → keeps s (earlier ++ first) line
+  pub rules : (first last : List Line) (line : Line) → done_lines (record { dealt = one; answer = answer }) ≡ first ++ line ∷ last
+      → keeps s (earlier ++ first) line
   pub lines : IsSoFar (earlier ++ done_lines (record { dealt = one; answer = answer })) so_far
   pub long : length so_far.taken.items ≡ length told.lines.now
   pub group_is : one.group ≡ so_far.tally.group
@@ -116,28 +117,34 @@ pub record IsAllKept (s : Setting) (jobs : List Dealt) (blocks : List Block) : T
 
 -- the lines of a load are kept
 abbrev pub AreKeptLines : Told → SoFar → SoFar → Shape → Caller → List Outcome → List LoadLine → Type 0
-AreKeptLines told old new shape caller outcomes lines = (s : Setting) (earlier : List Line) (one : Dealt) → s.shape ≡ shape → IsNextOf told old caller s earlier one
+AreKeptLines told old new shape caller outcomes lines = (s : Setting) (earlier : List Line) (one : Dealt) → s.shape ≡ shape
+    → IsNextOf told old caller s earlier one
     → HasLoaded told new caller s earlier one outcomes lines (length outcomes) × (length lines ≡ length outcomes)
 
 -- one of them is at fault
 abbrev pub IsFaultyLine : Told → SoFar → Shape → Caller → List Outcome → List LoadLine → ℕ → Type 0
-IsFaultyLine told old shape caller outcomes lines offset = (s : Setting) (earlier : List Line) (one : Dealt) → s.shape ≡ shape → IsNextOf told old caller s earlier one
+IsFaultyLine told old shape caller outcomes lines offset = (s : Setting) (earlier : List Line) (one : Dealt) → s.shape ≡ shape
+    → IsNextOf told old caller s earlier one
     → (at : ℕ) (bytes : List ℕ) → bytes_at s.files at ≡ Some bytes → IsRecordList bytes outcomes → IsLoadFault s earlier one at lines offset
 
 -- the block of a search is kept, under this budget
 abbrev pub IsKeptSearch : Told → SoFar → SoFar → Caller → ℕ → JobRead → SearchLine → Type 0
-IsKeptSearch told old new caller budget read answer = (s : Setting) (earlier : List Line) (one : Dealt) (line : ℕ) (file : List ℕ) → own_budget s one.job.order ≡ budget
-    → IsTurnOf told old caller read s earlier one → IsBlockFor one.job.line one.job.order (block.Search line file answer) → IsKeptBlock told new s earlier one (block.Search line file answer)
+IsKeptSearch told old new caller budget read answer = (s : Setting) (earlier : List Line) (one : Dealt) (line : ℕ) (file : List ℕ)
+    → own_budget s one.job.order ≡ budget
+    → IsTurnOf told old caller read s earlier one → IsBlockFor one.job.line one.job.order (block.Search line file answer)
+    → IsKeptBlock told new s earlier one (block.Search line file answer)
 
 abbrev pub IsFaultySearch : Told → SoFar → Caller → ℕ → JobRead → SearchLine → ℕ → Type 0
-IsFaultySearch told old caller budget read answer offset = (s : Setting) (earlier : List Line) (one : Dealt) (line : ℕ) (file : List ℕ) → own_budget s one.job.order ≡ budget
+IsFaultySearch told old caller budget read answer offset = (s : Setting) (earlier : List Line) (one : Dealt) (line : ℕ) (file : List ℕ)
+    → own_budget s one.job.order ≡ budget
     → IsTurnOf told old caller read s earlier one → IsBlockFor one.job.line one.job.order (block.Search line file answer)
     → IsBlockFault s earlier (Some one) (Some (block.Search line file answer)) offset
 
 -- the block of a withdrawal is kept
 abbrev pub IsKeptWithdrawal : Told → SoFar → SoFar → Shape → Caller → ℕ → WithdrawLine → Type 0
 IsKeptWithdrawal told old new shape caller number answer = (s : Setting) (earlier : List Line) (one : Dealt) (read : JobRead) (line : ℕ) → s.shape ≡ shape
-    → IsTurnOf told old caller read s earlier one → IsBlockFor one.job.line one.job.order (block.Withdraw line number answer) → IsKeptBlock told new s earlier one (block.Withdraw line number answer)
+    → IsTurnOf told old caller read s earlier one → IsBlockFor one.job.line one.job.order (block.Withdraw line number answer)
+    → IsKeptBlock told new s earlier one (block.Withdraw line number answer)
 
 abbrev pub IsFaultyWithdrawal : Told → SoFar → Shape → Caller → ℕ → WithdrawLine → ℕ → Type 0
 IsFaultyWithdrawal told old shape caller number answer offset = (s : Setting) (earlier : List Line) (one : Dealt) (read : JobRead) (line : ℕ) → s.shape ≡ shape
@@ -145,18 +152,22 @@ IsFaultyWithdrawal told old shape caller number answer offset = (s : Setting) (e
 
 -- the block at the place of this job is kept
 abbrev pub IsKeptTurn : Told → SoFar → SoFar → Turns → Caller → Job → JobRead → Block → Type 0
-IsKeptTurn told old new turns caller job read here = (s : Setting) (earlier : List Line) (one : Dealt) → s.shape ≡ turns.shape → s.budget ≡ turns.budget → one.job ≡ job
+IsKeptTurn told old new turns caller job read here = (s : Setting) (earlier : List Line) (one : Dealt) → s.shape ≡ turns.shape → s.budget ≡ turns.budget
+    → one.job ≡ job
     → IsTurnOf told old caller read s earlier one → IsKeptBlock told new s earlier one here
 
 abbrev pub IsFaultyTurn : Told → SoFar → Turns → Caller → Job → JobRead → Block → ℕ → Type 0
-IsFaultyTurn told old turns caller job read here offset = (s : Setting) (earlier : List Line) (one : Dealt) → s.shape ≡ turns.shape → s.budget ≡ turns.budget → one.job ≡ job
+IsFaultyTurn told old turns caller job read here offset = (s : Setting) (earlier : List Line) (one : Dealt) → s.shape ≡ turns.shape
+    → s.budget ≡ turns.budget → one.job ≡ job
     → IsTurnOf told old caller read s earlier one → IsBlockFault s earlier (Some one) (Some here) offset
 
 -- the block after so many is kept
 abbrev pub IsKeptNext : Told → SoFar → SoFar → Turns → ℕ → Type 0
-IsKeptNext told old new turns index = (script : List Group) (s : Setting) → AreTurnsOf told turns script s → HasKept told old s (dealt s.shape 1 script) turns.blocks.now index
+IsKeptNext told old new turns index = (script : List Group) (s : Setting) → AreTurnsOf told turns script s
+    → HasKept told old s (dealt s.shape 1 script) turns.blocks.now index
     → (index < length turns.jobs.now) × (index < length turns.blocks.now) × HasKept told new s (dealt s.shape 1 script) turns.blocks.now (index + 1)
 
 abbrev pub IsFaultyNext : Told → SoFar → Turns → ℕ → ℕ → Type 0
-IsFaultyNext told old turns index offset = (script : List Group) (s : Setting) → AreTurnsOf told turns script s → HasKept told old s (dealt s.shape 1 script) turns.blocks.now index
+IsFaultyNext told old turns index offset = (script : List Group) (s : Setting) → AreTurnsOf told turns script s
+    → HasKept told old s (dealt s.shape 1 script) turns.blocks.now index
     → IsFaultAfter s (dealt s.shape 1 script) turns.blocks.now index offset

@@ -27,7 +27,12 @@ use script_text::{Files, Job, Order, Script};
 use std::alloc::Global;
 
 /// Whether a report is one of its own log for the script and the files of its jobs, or the first line at fault.
-pub fn audit_report(alloc: Global, script: &Script, files: &Files, report: &Report) -> Result<Verdict, OutOfMemory>
+pub fn audit_report(
+    alloc: Global,
+    script: &Script,
+    files: &Files,
+    report: &Report,
+) -> Result<Verdict, OutOfMemory>
     requires { MayBeAudited script.now.groups files.now report.now }
     ensures { IfOk result (λ verdict. IsVerdict script.now.groups files.now report.now verdict) }
 {
@@ -58,9 +63,11 @@ fn first_fault(
     requires reads { length reads.now ≡ length jobs.now }
     requires table { length table.now ≡ length report.now.events }
     requires marked { All IsMarkedNamer table.now }
-    ensures fault { IfOk result (λ found. IfSome found (λ line. (script : List Group) (files : List (ℕ × List ℕ)) → IsCase script files report.now jobs.now reads.now table.now
+    ensures fault { IfOk result (λ found. IfSome found (λ line. (script : List Group) (files : List (ℕ × List ℕ))
+        → IsCase script files report.now jobs.now reads.now table.now
         → IsFirstFault script files report.now line)) }
-    ensures none { IfOk result (λ found. IfNone found ((script : List Group) (files : List (ℕ × List ℕ)) → IsCase script files report.now jobs.now reads.now table.now
+    ensures none { IfOk result (λ found. IfNone found ((script : List Group) (files : List (ℕ × List ℕ))
+        → IsCase script files report.now jobs.now reads.now table.now
         → IsInGrammar report.now → IsReport script files report.now.shape report.now.budget report.now)) }
 {
     law_of_reports();

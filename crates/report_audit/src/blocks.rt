@@ -39,14 +39,43 @@ pub fn take_block(
         return Ok(Some(0));
     }
     match here {
-        Block::Load { answers, .. } => Ok(take_lines(told, so_far, turns.shape, caller, records_of(read), answers.as_slice())),
-        Block::Withdraw { number, answer, .. } => Ok(take_withdrawal(told, so_far, turns.shape, caller, *number, *answer)),
-        Block::Search { answer, .. } => take_search(turns.alloc, told, so_far, caller, budget_of(&job.order, turns.budget), read, answer),
+        Block::Load { answers, .. } => Ok(take_lines(
+            told,
+            so_far,
+            turns.shape,
+            caller,
+            records_of(read),
+            answers.as_slice(),
+        )),
+        Block::Withdraw { number, answer, .. } => Ok(take_withdrawal(
+            told,
+            so_far,
+            turns.shape,
+            caller,
+            *number,
+            *answer,
+        )),
+        Block::Search { answer, .. } => take_search(
+            turns.alloc,
+            told,
+            so_far,
+            caller,
+            budget_of(&job.order, turns.budget),
+            read,
+            answer,
+        ),
     }
 }
 
 // Notes the line of a withdrawal, if it keeps its rule.
-fn take_withdrawal(told: &Told<'_>, so_far: &mut SoFar, shape: Shape, caller: Caller, number: u32, answer: WithdrawLine) -> Option<usize>
+fn take_withdrawal(
+    told: &Told<'_>,
+    so_far: &mut SoFar,
+    shape: Shape,
+    caller: Caller,
+    number: u32,
+    answer: WithdrawLine,
+) -> Option<usize>
     requires whole { IsWhole told.now }
     requires caller { IsCaller (caller_of caller) }
     ensures kept { IfNone result (IsKeptWithdrawal told.now so_far.old so_far.new shape caller number answer) }
@@ -64,7 +93,10 @@ fn budget_of(order: &Order, budget: u64) -> u64
     ensures { (s : Setting) → s.budget ≡ budget → own_budget s order.now ≡ result }
 {
     match order {
-        Order::Search { budget: Some(own), .. } => *own,
+        Order::Search {
+            budget: Some(own),
+            ..
+        } => *own,
         _ => budget,
     }
 }

@@ -79,7 +79,9 @@ pub fn carried_by_withdrawal(answer: WithdrawLine) -> Carried
             own: 0,
             words: 0,
         },
-        WithdrawLine::Unknown { front } | WithdrawLine::LogFull { front } => carried_by_front(front),
+        WithdrawLine::Unknown { front } | WithdrawLine::LogFull { front } => carried_by_front(
+            front,
+        ),
     }
 }
 

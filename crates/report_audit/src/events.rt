@@ -39,8 +39,16 @@ fn is_line_of(line: &LogLine, loader: u8, name: &Name, mol: &Mol) -> bool
     ensures { IsTrue result ↔ (line.now ≡ log.Publish loader (length mol.now.atoms) (length mol.now.bonds) name.now) }
 {
     match line {
-        LogLine::Publish { loader: by, atoms, bonds, name: named } => {
-            *by == loader && *atoms as usize == mol.atoms().len() && *bonds as usize == mol.bonds().len() && named.bytes() == name.bytes()
+        LogLine::Publish {
+            loader: by,
+            atoms,
+            bonds,
+            name: named,
+        } => {
+            *by == loader
+                && *atoms as usize == mol.atoms().len()
+                && *bonds as usize == mol.bonds().len()
+                && named.bytes() == name.bytes()
         }
         LogLine::Withdraw { .. } => false,
     }
@@ -109,7 +117,10 @@ fn is_same_bond(one: &Bond, other: &Bond) -> bool
     ensures is { result ≡ true → one.now ≡ other.now }
     ensures other { result ≡ false → one.now ≡ other.now → ⊥ }
 {
-    one.first == other.first && one.second == other.second && one.kind == other.kind && one.ring == other.ring
+    one.first == other.first
+        && one.second == other.second
+        && one.kind == other.kind
+        && one.ring == other.ring
 }
 
 /// Whether event `number` is the withdrawal of the target by this loader.

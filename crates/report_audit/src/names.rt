@@ -1,5 +1,6 @@
 // Which record each event is named by.
-ghost use Rattle.std.specs.Prelude.{◌≡◌, ◌≢◌, ◌↔◌, ℕ, ◌<◌, ◌≤◌, ◌++◌, ◌∷◌, [], List, IsTrue, IfOk, length, map, drop, take, option_map, unwrap_or, slice_get, slice_index_or};
+ghost use Rattle.std.specs.Prelude.{◌≡◌, ◌≢◌, ◌↔◌, ℕ, ◌<◌, ◌≤◌, ◌++◌, ◌∷◌, [], List};
+ghost use Rattle.std.specs.Prelude.{IsTrue, IfOk, length, map, drop, take, option_map, unwrap_or, slice_get, slice_index_or};
 ghost use Rattle.std.specs.List.{AllZip};
 ghost use Rattle.htss_defs.specs.Molecule.{Molecule};
 ghost use Rattle.htss_defs.specs.declared.shape.Shape.{Shape};
@@ -46,7 +47,13 @@ pub fn name_events<'a>(
 }
 
 // Notes the events that the block at the place of a job names, if one stands there.
-fn name_job<'a>(table: &mut [Namer<'a>], job: &Job, reads: &'a [JobRead], blocks: &[Block], index: usize)
+fn name_job<'a>(
+    table: &mut [Namer<'a>],
+    job: &Job,
+    reads: &'a [JobRead],
+    blocks: &[Block],
+    index: usize,
+)
     ensures { (files : List (ℕ × List ℕ)) (one : Dealt) → one.job ≡ job.now
         → ((d : JobRead) → IsReadFor (bytes_at files job.now.line) job.now.order (slice_index_or reads.now index d))
         → index < length reads.now → (named : List (ℕ × Molecule)) → IsTable named table.old
@@ -76,15 +83,30 @@ pub fn is_block_for(job: &Job, block: &Block) -> bool
     ensures { IsTrue result ↔ IsBlockFor job.now.line job.now.order block.now }
 {
     match (&job.order, block) {
-        (Order::Load { file }, Block::Load { line, file: named, .. }) => {
-            *line == job.line && named.text() == file.text()
-        }
-        (Order::Withdraw { number }, Block::Withdraw { line, number: named, .. }) => {
-            *line == job.line && named == number
-        }
-        (Order::Search { file, .. }, Block::Search { line, file: named, .. }) => {
-            *line == job.line && named.text() == file.text()
-        }
+        (
+            Order::Load { file },
+            Block::Load {
+                line,
+                file: named,
+                ..
+            },
+        ) => { *line == job.line && named.text() == file.text() }
+        (
+            Order::Withdraw { number },
+            Block::Withdraw {
+                line,
+                number: named,
+                ..
+            },
+        ) => { *line == job.line && named == number }
+        (
+            Order::Search { file, .. },
+            Block::Search {
+                line,
+                file: named,
+                ..
+            },
+        ) => { *line == job.line && named.text() == file.text() }
         _ => false,
     }
 }
@@ -121,7 +143,8 @@ fn name_line<'a>(table: &mut [Namer<'a>], records: &'a [RecordRead], index: usiz
 
 // Notes that a line names the event, where none before does.
 fn name_event<'a>(table: &mut [Namer<'a>], number: u32, mol: Option<&'a Mol>)
-    ensures { (named : List (ℕ × Molecule)) → IsTable named table.old → IsTable (named ++ (number, unwrap_or (option_map (λ m. m.now) mol.entry) no_molecule) ∷ []) table.new }
+    ensures { (named : List (ℕ × Molecule)) → IsTable named table.old
+        → IsTable (named ++ (number, unwrap_or (option_map (λ m. m.now) mol.entry) no_molecule) ∷ []) table.new }
 {
     if number == 0 {
         return;

@@ -40,7 +40,8 @@ pub fn keeps_record(
     match read {
         RecordRead::Refused { line: at, code } => is_refused_line(line, place, *at, *code),
         RecordRead::Accepted { name, mol } => {
-            is_line_at(line, name, place) && keeps_fate(told, so_far, shape, caller, name, mol, line)
+            is_line_at(line, name, place)
+                && keeps_fate(told, so_far, shape, caller, name, mol, line)
         }
     }
 }
@@ -50,9 +51,11 @@ fn is_refused_line(line: &LoadLine, place: usize, at: u64, code: u8) -> bool
     ensures { IsTrue result ↔ (load.Refused place at code ≡ line.now) }
 {
     match line {
-        LoadLine::Refused { place: here, line: told, code: word } => {
-            *here as usize == place && *told == at && *word == code
-        }
+        LoadLine::Refused {
+            place: here,
+            line: told,
+            code: word,
+        } => { *here as usize == place && *told == at && *word == code }
         _ => false,
     }
 }
@@ -72,7 +75,15 @@ fn is_line_at(line: &LoadLine, name: &Name, place: usize) -> bool
 }
 
 // Whether what the line says of this record keeps its rule.
-fn keeps_fate(told: &Told<'_>, so_far: &SoFar, shape: Shape, caller: Caller, name: &Name, mol: &Mol, line: &LoadLine) -> bool
+fn keeps_fate(
+    told: &Told<'_>,
+    so_far: &SoFar,
+    shape: Shape,
+    caller: Caller,
+    name: &Name,
+    mol: &Mol,
+    line: &LoadLine,
+) -> bool
     requires whole { IsWhole told.now }
     requires caller { IsCaller (caller_of caller) }
     ensures kept { result ≡ true → (s : Setting) (earlier : List Line) (one : Dealt) → s.shape ≡ shape → IsNextOf told.now so_far.now caller s earlier one
@@ -81,7 +92,9 @@ fn keeps_fate(told: &Told<'_>, so_far: &SoFar, shape: Shape, caller: Caller, nam
         → keeps s earlier (answer_line one (taken (record { name = name.now; mol = mol.now }) (fate_of line.now))) → ⊥ }
 {
     match line {
-        LoadLine::Published { number, .. } => keeps_published(told, so_far, caller, name, mol, *number),
+        LoadLine::Published { number, .. } => keeps_published(
+            told, so_far, caller, name, mol, *number,
+        ),
         LoadLine::Refused { .. } | LoadLine::NoPage { .. } => true,
         LoadLine::DataFull { left, need, .. } => {
             is_need(name, mol, *left, *need) && so_far.tally.is_room_left(shape, caller, *left)
@@ -94,7 +107,14 @@ fn keeps_fate(told: &Told<'_>, so_far: &SoFar, shape: Shape, caller: Caller, nam
 }
 
 // Whether the event is this record's publication, and new.
-fn keeps_published(told: &Told<'_>, so_far: &SoFar, caller: Caller, name: &Name, mol: &Mol, number: u32) -> bool
+fn keeps_published(
+    told: &Told<'_>,
+    so_far: &SoFar,
+    caller: Caller,
+    name: &Name,
+    mol: &Mol,
+    number: u32,
+) -> bool
     requires whole { IsWhole told.now }
     requires caller { IsCaller (caller_of caller) }
     ensures kept { result ≡ true → (s : Setting) (earlier : List Line) (one : Dealt) → IsNextOf told.now so_far.now caller s earlier one

@@ -40,20 +40,44 @@ pub fn take_search(
 {
     match answer {
         SearchLine::Refused { line, code } => Ok(take_refusal(so_far, caller, read, *line, *code)),
-        SearchLine::Hits { front, hits, rows, records } => {
-            take_hits(alloc, told, so_far, caller, budget, read, *front, hits.as_slice(), *rows, *records)
+        SearchLine::Hits {
+            front,
+            hits,
+            rows,
+            records,
+        } => {
+            take_hits(
+                alloc,
+                told,
+                so_far,
+                caller,
+                budget,
+                read,
+                *front,
+                hits.as_slice(),
+                *rows,
+                *records,
+            )
         }
-        SearchLine::OverBudget { front, budget: printed } => {
-            take_over(told, so_far, caller, budget, read, *front, *printed)
-        }
+        SearchLine::OverBudget {
+            front,
+            budget: printed,
+        } => { take_over(told, so_far, caller, budget, read, *front, *printed) }
     }
 }
 
 // Notes that a query is refused, where it is refused so.
-fn take_refusal(so_far: &mut SoFar, caller: Caller, read: &JobRead, line: u64, code: u8) -> Option<usize>
+fn take_refusal(
+    so_far: &mut SoFar,
+    caller: Caller,
+    read: &JobRead,
+    line: u64,
+    code: u8,
+) -> Option<usize>
     requires { IsCaller (caller_of caller) }
     ensures kept { (told : Told) (budget : ℕ) → IfNone result (IsKeptSearch told so_far.old so_far.new caller budget read.now (search.Refused line code)) }
-    ensures fault { (told : Told) (budget : ℕ) → IfSome result (λ offset. IsFaultySearch told so_far.old caller budget read.now (search.Refused line code) offset) }
+    ensures fault { (told : Told) (budget : ℕ)
+        → IfSome result (λ offset. IsFaultySearch told so_far.old caller budget read.now (search.Refused line code) offset) }
 {
     if !is_refused_so(read, line, code) {
         return Some(0);
@@ -112,8 +136,10 @@ fn take_hits(
 ) -> Result<Option<usize>, OutOfMemory>
     requires whole { IsWhole told.now }
     requires caller { IsCaller (caller_of caller) }
-    ensures kept { IfOk result (λ found. IfNone found (IsKeptSearch told.now so_far.old so_far.new caller budget read.now (search.Hits front hits.now _rows records))) }
-    ensures fault { IfOk result (λ found. IfSome found (λ offset. IsFaultySearch told.now so_far.old caller budget read.now (search.Hits front hits.now _rows records) offset)) }
+    ensures kept { IfOk result (λ found. IfNone found
+        (IsKeptSearch told.now so_far.old so_far.new caller budget read.now (search.Hits front hits.now _rows records))) }
+    ensures fault { IfOk result (λ found. IfSome found (λ offset.
+        IsFaultySearch told.now so_far.old caller budget read.now (search.Hits front hits.now _rows records) offset)) }
 {
     let Some(query) = query_of(read) else {
         return Ok(Some(0));
@@ -129,11 +155,20 @@ fn take_hits(
 }
 
 // Notes the front of a search whose work exceeds its budget.
-fn take_over(told: &Told<'_>, so_far: &mut SoFar, caller: Caller, budget: u64, read: &JobRead, front: u32, printed: u64) -> Result<Option<usize>, OutOfMemory>
+fn take_over(
+    told: &Told<'_>,
+    so_far: &mut SoFar,
+    caller: Caller,
+    budget: u64,
+    read: &JobRead,
+    front: u32,
+    printed: u64,
+) -> Result<Option<usize>, OutOfMemory>
     requires whole { IsWhole told.now }
     requires caller { IsCaller (caller_of caller) }
     ensures kept { IfOk result (λ found. IfNone found (IsKeptSearch told.now so_far.old so_far.new caller budget read.now (search.OverBudget front printed))) }
-    ensures fault { IfOk result (λ found. IfSome found (λ offset. IsFaultySearch told.now so_far.old caller budget read.now (search.OverBudget front printed) offset)) }
+    ensures fault { IfOk result (λ found. IfSome found (λ offset.
+        IsFaultySearch told.now so_far.old caller budget read.now (search.OverBudget front printed) offset)) }
 {
     let Some(query) = query_of(read) else {
         return Ok(Some(0));

@@ -29,7 +29,11 @@ pub struct Turns<'a> {
 }
 
 /// Notes the lines of all blocks; or gives the first line at fault.
-pub fn take_blocks(told: &Told<'_>, so_far: &mut SoFar, turns: &Turns<'_>) -> Result<Option<u64>, OutOfMemory>
+pub fn take_blocks(
+    told: &Told<'_>,
+    so_far: &mut SoFar,
+    turns: &Turns<'_>,
+) -> Result<Option<u64>, OutOfMemory>
     requires whole { IsWhole told.now }
     requires shape { IsShape turns.now.shape }
     requires reads { length turns.now.reads.now ≡ length turns.now.jobs.now }
@@ -52,7 +56,12 @@ pub fn take_blocks(told: &Told<'_>, so_far: &mut SoFar, turns: &Turns<'_>) -> Re
 }
 
 // Notes the lines of the block at this index; or gives the first at fault, by its place after the block's first line.
-fn take_turn(told: &Told<'_>, so_far: &mut SoFar, turns: &Turns<'_>, index: usize) -> Result<Option<usize>, OutOfMemory>
+fn take_turn(
+    told: &Told<'_>,
+    so_far: &mut SoFar,
+    turns: &Turns<'_>,
+    index: usize,
+) -> Result<Option<usize>, OutOfMemory>
     requires whole { IsWhole told.now }
     requires shape { IsShape turns.now.shape }
     requires reads { length turns.now.reads.now ≡ length turns.now.jobs.now }
@@ -72,7 +81,15 @@ fn take_turn(told: &Told<'_>, so_far: &mut SoFar, turns: &Turns<'_>, index: usiz
     let laid = &jobs[index];
     so_far.enter(laid.group);
     let caller = caller_for(turns.shape, *laid);
-    take_block(turns, told, so_far, caller, laid.job, &reads[index], &blocks[index])
+    take_block(
+        turns,
+        told,
+        so_far,
+        caller,
+        laid.job,
+        &reads[index],
+        &blocks[index],
+    )
 }
 
 // The number of the line after the first so many blocks.

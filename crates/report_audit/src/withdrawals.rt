@@ -18,7 +18,14 @@ use htss_defs::Shape;
 use report_text::WithdrawLine;
 
 /// Whether the answer to the caller's next withdrawal keeps its rule.
-pub fn keeps_withdrawal(told: &Told<'_>, so_far: &SoFar, shape: Shape, caller: Caller, number: u32, answer: WithdrawLine) -> bool
+pub fn keeps_withdrawal(
+    told: &Told<'_>,
+    so_far: &SoFar,
+    shape: Shape,
+    caller: Caller,
+    number: u32,
+    answer: WithdrawLine,
+) -> bool
     requires whole { IsWhole told.now }
     requires caller { IsCaller (caller_of caller) }
     ensures kept { result ≡ true → (s : Setting) (earlier : List Line) (one : Dealt) → s.shape ≡ shape → IsNextOf told.now so_far.now caller s earlier one

@@ -48,6 +48,8 @@ returns c =
     let case = case_of c.args.script.now.groups c.as_slice.result.now c.args.files.now c.args.report.now c.as_slice-blocks.result.now c.in_ok-jobs.jobs.items c.deref.result.now c.deref-2.result.now c.deref-4.result.now
     c.in_ok-reads.reads.items c.deref-3.result.now c.deref-5.result.now c.in_ok-table.table.items c.deref-6.result.now c.as_slice.ensures c.as_slice-blocks.ensures c.deref.ensures.value c.deref-2.ensures.value c.deref-4.ensures.value
     c.deref-3.ensures.value c.deref-5.ensures.value c.deref-6.ensures.value c.in_ok-jobs.ensures c.in_ok-reads.ensures (c.in_ok-table.ensures.named c.args.files.now c.args.report.now.shape) in
-    let laid = jobs_are c.args.report.now.shape c.in_ok-jobs.jobs.items c.as_slice.result.now (c.in_ok-jobs.ensures c.args.report.now.shape) ∙ ap jobs_in c.as_slice.ensures in
-    ((none_at _ _ c.in_default.is c.in_ok-line.ensures.none) c.args.script.now.groups c.args.files.now case c.requires.grammar, ap length c.as_slice-count.ensures,
-    c.searches_among.ensures ∙ ap (λ (l : List LaidJob). searches_of (map job_of l)) c.deref-7.ensures.value ∙ ap searches_of laid ∙ searches_are c.args.script.now.groups)
+    let laid = jobs_are c.args.report.now.shape c.in_ok-jobs.jobs.items c.as_slice.result.now (c.in_ok-jobs.ensures c.args.report.now.shape) ∙ ap jobs_in c.as_slice.ensures in (
+      (none_at _ _ c.in_default.is c.in_ok-line.ensures.none) c.args.script.now.groups c.args.files.now case c.requires.grammar,
+      ap length c.as_slice-count.ensures,
+      c.searches_among.ensures ∙ ap (λ (l : List LaidJob). searches_of (map job_of l)) c.deref-7.ensures.value ∙ ap searches_of laid ∙ searches_are c.args.script.now.groups,
+    )

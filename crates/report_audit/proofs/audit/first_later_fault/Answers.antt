@@ -27,9 +27,12 @@ returns-in-Some-first_free-clause-fault c = λ script s are.
     let within = is_free.within in
     let many = has.long in
     let fits : c.line_after.result + number < 18446744073709551616 = omega (arith, within, many, c.line_after.ensures, c.requires.lines) in
-    inr (number, unsaturated _ c.line_after.result number c.saturating_add.ensures fits ∙ ap (λ (n : ℕ). n + number) c.line_after.ensures,
-    unnamed c.args.told.now so_far s (dealt s.shape 1 script) blocks number are.tells has (long ∙ sym count) is_free
-    (λ other less one. free.1 other less (subst (λ (l : List Bool). IsFree l other) (sym c.deref.ensures.value) one)))
+    inr (
+      number,
+      unsaturated _ c.line_after.result number c.saturating_add.ensures fits ∙ ap (λ (n : ℕ). n + number) c.line_after.ensures,
+      unnamed c.args.told.now so_far s (dealt s.shape 1 script) blocks number are.tells has (long ∙ sym count) is_free
+          (λ other less one. free.1 other less (subst (λ (l : List Bool). IsFree l other) (sym c.deref.ensures.value) one)),
+    )
 
 pub returns-clause-none : goal.returns-clause-none
 returns-clause-none c = λ script s are.

@@ -8,11 +8,11 @@ returns-then-one-other-clause-other c = λ no same. c.if-one-other.true (ap leng
 
 pub returns-then-not-is_same_bond-clause-other : goal.returns-then-not-is_same_bond-clause-other
 returns-then-not-is_same_bond-clause-other c = λ no same.
-    alike_not c.args.one.now c.args.other.now c.loop-index.index same c.loop-index-test.true (c.is_same_bond.ensures.other c.if-not-is_same_bond.true)
+    alike_not c.args.one.now c.args.other.now c.loop-index.index _ _ same c.loop-index-test.true (c.is_same_bond.ensures.other c.if-not-is_same_bond.true)
 
 pub loop-index-preserved : goal.loop-index-preserved
 loop-index-preserved c =
-    alike_more c.args.one.now c.args.other.now c.loop-index.index c.loop-index.invariant c.loop-index-test.true (omega (arith, c.loop-index-test.true, c.if-one-other.false))
+    alike_more c.args.one.now c.args.other.now c.loop-index.index _ _ c.loop-index.invariant c.loop-index-test.true (omega (arith, c.loop-index-test.true, c.if-one-other.false))
     (c.is_same_bond.ensures.is c.if-not-is_same_bond.false)
 
 pub returns-clause-is : goal.returns-clause-is

@@ -26,7 +26,9 @@ returns-clause-kept c = λ yes s earlier one shape has.
     let own = carried.own in
     let all = has.next.long in
     let noted = c.note.ensures.lines before (answer_line one answer) has.next.caller_is has.next.group_is carried
-    (omega (arith, own, all, own_within s before one.group one.caller (to_record answer) kept.1, as_long c.args.told.now c.args.so_far.now c.args.caller s before one has.next)) has.next.lines in
-    (omega (arith, c.if-index-lines.false), omega (arith, c.if-index-records.false),
-    has_loaded_more c.args.told.now c.args.so_far.now c.note.new.self c.args.caller s earlier one (map reads.outcome_of records) lines index answer has record_at line_at kept.1
-    (next_noted c.args.told.now c.args.so_far.now c.note.new.self c.args.caller s before (before ++ answer_line one answer ∷ []) one has.next noted c.note.ensures.group c.note.ensures.long))
+    (omega (arith, own, all, own_within s before one.group one.caller (to_record answer) kept.1, as_long c.args.told.now c.args.so_far.now c.args.caller s before one has.next)) has.next.lines in (
+      omega (arith, c.if-index-lines.false),
+      omega (arith, c.if-index-records.false),
+      has_loaded_more c.args.told.now c.args.so_far.now c.note.new.self c.args.caller s earlier one (map reads.outcome_of records) lines index answer has record_at line_at kept.1
+          (next_noted c.args.told.now c.args.so_far.now c.note.new.self c.args.caller s before (before ++ answer_line one answer ∷ []) one has.next noted c.note.ensures.group c.note.ensures.long),
+    )

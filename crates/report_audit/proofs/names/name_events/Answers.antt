@@ -35,14 +35,16 @@ loop-index-preserved c =
           let (named, are, table) = c.loop-index.invariant.named files shape all in
           let one = dealt_by shape laid in
           let (here, at, next) = c.name_job.ensures files one refl
-              (λ d. subst (λ (l : LaidJob). IsReadOf files l (get_or c.args.reads.now i d)) (sym c.index-jobs-index.is) (zip_each (IsReadOf files) jobs c.args.reads.now i laid d all c.loop-index-test.true))
-              (omega (arith, c.loop-index-test.true, zip_long (IsReadOf files) jobs c.args.reads.now all)) named (subst (IsTable named) (sym same) table) in
+          (λ d. subst (λ (l : LaidJob). IsReadOf files l (get_or c.args.reads.now i d)) (sym c.index-jobs-index.is) (zip_each (IsReadOf files) jobs c.args.reads.now i laid d all c.loop-index-test.true))
+          (omega (arith, c.loop-index-test.true, zip_long (IsReadOf files) jobs c.args.reads.now all)) named (subst (IsTable named) (sym same) table) in
           let dealt = map (dealt_by shape) (take i jobs) in
           let count : length dealt ≡ i = length_map (dealt_by shape) (take i jobs) ∙ long in
-          let whole : dealt ++ one ∷ [] ≡ map (dealt_by shape) (take (i + 1) jobs) = sym (ap (map (dealt_by shape)) more ∙ map-append (dealt_by shape) (take i jobs) (laid ∷ [])) in
-          (named ++ here, subst (λ (ds : List Dealt). AreNamed files ds c.args.blocks.now (named ++ here)) whole
-              (named_push files dealt one c.args.blocks.now named here are (subst (λ (n : ℕ). IsNamedAt files one (slice_get c.args.blocks.now n) here) (sym count) at)),
-              subst (IsTable (named ++ here)) (sym back) next);
+          let whole : dealt ++ one ∷ [] ≡ map (dealt_by shape) (take (i + 1) jobs) = sym (ap (map (dealt_by shape)) more ∙ map-append (dealt_by shape) (take i jobs) (laid ∷ [])) in (
+            named ++ here,
+            subst (λ (ds : List Dealt). AreNamed files ds c.args.blocks.now (named ++ here)) whole
+                (named_push files dealt one c.args.blocks.now named here are (subst (λ (n : ℕ). IsNamedAt files one (slice_get c.args.blocks.now n) here) (sym count) at)),
+            subst (IsTable (named ++ here)) (sym back) next,
+          );
       long = ap length back ∙ omega (arith, c.name_job.auto.table, old_long, c.loop-index.invariant.long);
     }
 

@@ -19,13 +19,18 @@ returns-then-index-blocks c = λ files one same is within named table.
     let lines = c.lines_for-lines.result.now in
     let names = namings (map outcome_of (records_in read)) lines in
     let read_is = subst (λ (r : JobRead). IsReadFor (bytes_at files c.args.job.now.line) c.args.job.now.order r) (sym c.index-reads-index.is) (is read) in
-    let at = slice_get_read c.args.blocks.now _ c.args.index here refl (omega (arith, c.if-index-blocks.true)) c.index-blocks-index.is in
-    (names, subst (λ (o : Option Block). IsNamedAt files one o names) (sym at) (named_in files one c.args.job.now read here lines same read_is c.lines_for-lines.ensures),
-    subst (λ (rs : List RecordRead). IsTable (named ++ namings (map outcome_of rs) lines) c.name_lines.new.table) c.records_of.ensures (c.name_lines.ensures named table))
+    let at = slice_get_read c.args.blocks.now _ c.args.index here refl (omega (arith, c.if-index-blocks.true)) c.index-blocks-index.is in (
+      names,
+      subst (λ (o : Option Block). IsNamedAt files one o names) (sym at) (named_in files one c.args.job.now read here lines same read_is c.lines_for-lines.ensures),
+      subst (λ (rs : List RecordRead). IsTable (named ++ namings (map outcome_of rs) lines) c.name_lines.new.table) c.records_of.ensures (c.name_lines.ensures named table),
+    )
 
 pub returns-else-index-reads : goal.returns-else-index-reads
 returns-else-index-reads c = λ files one same is within named table. elim c.else-index-reads.either [
-  | inl past ↦ ([], subst (λ (o : Option Block). IsNamedAt files one o []) (sym (slice_get_past c.args.blocks.now c.args.index (omega (arith, past.1)))) refl,
-      subst (λ (n : List (ℕ × Molecule)). IsTable n c.args.table.now) (sym (append-nil named)) table)
+  | inl past ↦ (
+    [],
+    subst (λ (o : Option Block). IsNamedAt files one o []) (sym (slice_get_past c.args.blocks.now c.args.index (omega (arith, past.1)))) refl,
+    subst (λ (n : List (ℕ × Molecule)). IsTable n c.args.table.now) (sym (append-nil named)) table,
+  )
   | inr none ↦ absurd (omega (arith, within, none))
 ]

@@ -23,8 +23,12 @@ returns-then-is_need-clause-kept c = λ yes s earlier one shape next.
     let line = to_record (taken (record { name = c.args.name.now; mol = c.args.mol.now }) (no_room c.in-DataFull.left c.in-DataFull.need)) in
     let need = c.is_need.ensures.0 c.if-is_need.true in
     subst (λ (l : LoadLine). keeps s earlier (answer_line one (taken (record { name = c.args.name.now; mol = c.args.mol.now }) (fate_of l)))) (sym c.in-DataFull.is) (record {
-      rule = (need.0, need.1, subst (λ (k : Shape). IsRoomLeft k earlier (line_by one line) c.in-DataFull.left) (sym shape)
-          (c.is_room_left.ensures.left yes earlier (line_by one line) (is_next c.args.told.now c.args.so_far.now c.args.caller s earlier one line next) next.lines.tally));
+      rule = (
+        need.0,
+        need.1,
+        subst (λ (k : Shape). IsRoomLeft k earlier (line_by one line) c.in-DataFull.left) (sym shape)
+            (c.is_room_left.ensures.left yes earlier (line_by one line) (is_next c.args.told.now c.args.so_far.now c.args.caller s earlier one line next) next.lines.tally),
+      );
       logged = All-nil (IsAsLogged s.events s.history);
     })
 
@@ -41,8 +45,11 @@ returns-then-is_full_front-clause-kept c = λ yes s earlier one shape next.
     let full = c.is_full_front.ensures.0 c.if-is_full_front.true in
     let within = full.1 in
     subst (λ (l : LoadLine). keeps s earlier (answer_line one (taken (record { name = c.args.name.now; mol = c.args.mol.now }) (fate_of l)))) (sym c.in-LogFull.is) (record {
-      rule = (full.0 ∙ sym (ap (λ (k : Shape). k.log) shape), omega (arith, within, as_long c.args.told.now c.args.so_far.now c.args.caller s earlier one next),
-          c.is_refusing_front.ensures.front yes earlier (line_by one line) (is_next c.args.told.now c.args.so_far.now c.args.caller s earlier one line next) next.lines.tally);
+      rule = (
+        full.0 ∙ sym (ap (λ (k : Shape). k.log) shape),
+        omega (arith, within, as_long c.args.told.now c.args.so_far.now c.args.caller s earlier one next),
+        c.is_refusing_front.ensures.front yes earlier (line_by one line) (is_next c.args.told.now c.args.so_far.now c.args.caller s earlier one line next) next.lines.tally,
+      );
       logged = All-nil (IsAsLogged s.events s.history);
     })
 

@@ -29,9 +29,16 @@ returns-in-Some-2-clause-fault c = λ s earlier one line file own turn mine.
     let asked = search_of s one line file (search.Hits c.args.front c.args.hits.now c.args._rows c.args.records) c.args.read.now mine turn.read_is in
     let query = c.in-Some.query.now in
     let asks_it = asks s one line file c.args.read.now query asked c.in-Some.ensures.asked in
-    inr (mine, (query, asks_it, c.keeps_front.ensures.kept c.if-not-keeps_front.false s earlier one (to_search (hits_at query (own_budget s one.job.order) c.args.front c.args.hits.now c.args._rows c.args.records)) turn.next),
-    (query, asks_it, subst (λ (b : ℕ). IsHitFault query b (take c.args.front s.history) c.args.hits.now c.args.records c.in-Some-2.offset) (sym own) ((subst (λ (o : Option ℕ). IfSome o (λ offset. (history : List Event) → Tells c.args.told.now history → IsHitFault query c.args.budget (take c.args.front history) c.args.hits.now c.args.records offset))
-    c.in-Some-2.is c.in_ok-offset.ensures.differs) s.history turn.next.tells)))
+    inr (
+      mine,
+      (query, asks_it, c.keeps_front.ensures.kept c.if-not-keeps_front.false s earlier one (to_search (hits_at query (own_budget s one.job.order) c.args.front c.args.hits.now c.args._rows c.args.records)) turn.next),
+      (
+        query,
+        asks_it,
+        subst (λ (b : ℕ). IsHitFault query b (take c.args.front s.history) c.args.hits.now c.args.records c.in-Some-2.offset) (sym own) ((subst (λ (o : Option ℕ). IfSome o (λ offset. (history : List Event) → Tells c.args.told.now history → IsHitFault query c.args.budget (take c.args.front history) c.args.hits.now c.args.records offset))
+            c.in-Some-2.is c.in_ok-offset.ensures.differs) s.history turn.next.tells),
+      ),
+    )
 
 pub returns-clause-kept : goal.returns-clause-kept
 returns-clause-kept c = λ s earlier one line file own turn mine.

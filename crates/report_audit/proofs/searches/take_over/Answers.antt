@@ -27,16 +27,22 @@ returns-then-printed-budget-clause-fault c = λ s earlier one line file own turn
     let asked = search_of s one line file (search.OverBudget c.args.front c.args.printed) c.args.read.now mine turn.read_is in
     let query = c.in-Some.query.now in
     let asks_it = asks s one line file c.args.read.now query asked c.in-Some.ensures.asked in
-    inr (mine, (query, asks_it, c.keeps_front.ensures.kept c.if-not-keeps_front.false s earlier one (to_search (over_at query (own_budget s one.job.order) c.args.front)) turn.next),
-    (query, asks_it, refl, λ same reply. c.if-printed-budget.true (same ∙ own)))
+    inr (
+      mine,
+      (query, asks_it, c.keeps_front.ensures.kept c.if-not-keeps_front.false s earlier one (to_search (over_at query (own_budget s one.job.order) c.args.front)) turn.next),
+      (query, asks_it, refl, λ same reply. c.if-printed-budget.true (same ∙ own)),
+    )
 
 pub returns-then-not-check_over-clause-fault : goal.returns-then-not-check_over-clause-fault
 returns-then-not-check_over-clause-fault c = λ s earlier one line file own turn mine.
     let asked = search_of s one line file (search.OverBudget c.args.front c.args.printed) c.args.read.now mine turn.read_is in
     let query = c.in-Some.query.now in
     let asks_it = asks s one line file c.args.read.now query asked c.in-Some.ensures.asked in
-    inr (mine, (query, asks_it, c.keeps_front.ensures.kept c.if-not-keeps_front.false s earlier one (to_search (over_at query (own_budget s one.job.order) c.args.front)) turn.next),
-    (query, asks_it, refl, λ same reply. c.check_over.ensures.within c.if-not-check_over.true s.history turn.next.tells (subst (λ (b : ℕ). IsReply query b (take c.args.front s.history) over_budget) c.if-printed-budget.false reply)))
+    inr (
+      mine,
+      (query, asks_it, c.keeps_front.ensures.kept c.if-not-keeps_front.false s earlier one (to_search (over_at query (own_budget s one.job.order) c.args.front)) turn.next),
+      (query, asks_it, refl, λ same reply. c.check_over.ensures.within c.if-not-check_over.true s.history turn.next.tells (subst (λ (b : ℕ). IsReply query b (take c.args.front s.history) over_budget) c.if-printed-budget.false reply)),
+    )
 
 pub returns-clause-kept : goal.returns-clause-kept
 returns-clause-kept c = λ s earlier one line file own turn mine.

@@ -20,10 +20,12 @@ returns-clause-kept c =
     (IsKeptNext c.args.told.now c.args.so_far.now c.take_block.new.so_far c.args.turns.now c.args.index)
     (λ kept script s are has.
     let turn = turn_at c.args.told.now c.args.turns.now script s c.args.index laid c.index-reads-index.result c.args.so_far.now c.enter.new.self c.caller_for-caller.result c.args.turns.now.blocks.now are jobs_at reads_at has
-    c.enter.ensures.lines c.enter.ensures.group c.enter.ensures.long c.caller_for-caller.ensures.is in
-    (omega (arith, c.if-index-jobs.false), omega (arith, c.if-index-blocks.false),
-    kept_at c.args.told.now c.args.turns.now script s c.args.index laid c.args.so_far.now c.take_block.new.so_far c.args.turns.now.blocks.now c.index-blocks-index.result are jobs_at blocks_at has
-    (kept s (flat_map done_lines has.done) (callers.dealt_by s.shape laid) are.shape_is are.budget_is refl turn)))
+    c.enter.ensures.lines c.enter.ensures.group c.enter.ensures.long c.caller_for-caller.ensures.is in (
+      omega (arith, c.if-index-jobs.false),
+      omega (arith, c.if-index-blocks.false),
+      kept_at c.args.told.now c.args.turns.now script s c.args.index laid c.args.so_far.now c.take_block.new.so_far c.args.turns.now.blocks.now c.index-blocks-index.result are jobs_at blocks_at has
+          (kept s (flat_map done_lines has.done) (callers.dealt_by s.shape laid) are.shape_is are.budget_is refl turn),
+    ))
     c.take_block.ensures.kept
 
 pub returns-clause-fault : goal.returns-clause-fault

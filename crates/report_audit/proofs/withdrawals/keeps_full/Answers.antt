@@ -19,9 +19,13 @@ pub returns-clause-kept : goal.returns-clause-kept
 returns-clause-kept c = λ yes s earlier one log next.
     let line = to_withdrawal c.args.number (answer.LogFull c.args.front) in
     record {
-      rule = (sym log, omega (arith, c.if-front-told.false, as_long c.args.told.now c.args.so_far.now c.args.caller s earlier one next), c.is_published.ensures.is c.if-not-is_published.false s.history next.tells,
-          λ gone. c.is_withdrawn.ensures.other c.if-is_withdrawn.false s.history next.tells gone,
-          c.is_refusing_front.ensures.front yes earlier (line_by one line) (is_next c.args.told.now c.args.so_far.now c.args.caller s earlier one line next) next.lines.tally);
+      rule = (
+        sym log,
+        omega (arith, c.if-front-told.false, as_long c.args.told.now c.args.so_far.now c.args.caller s earlier one next),
+        c.is_published.ensures.is c.if-not-is_published.false s.history next.tells,
+        λ gone. c.is_withdrawn.ensures.other c.if-is_withdrawn.false s.history next.tells gone,
+        c.is_refusing_front.ensures.front yes earlier (line_by one line) (is_next c.args.told.now c.args.so_far.now c.args.caller s earlier one line next) next.lines.tally,
+      );
       logged = All-nil (IsAsLogged s.events s.history);
     }
 

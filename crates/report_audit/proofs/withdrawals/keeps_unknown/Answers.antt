@@ -15,8 +15,11 @@ pub returns-clause-kept : goal.returns-clause-kept
 returns-clause-kept c = λ yes s earlier one next.
     let line = to_withdrawal c.args.number (answer.Unknown c.args.front) in
     record {
-      rule = (omega (arith, c.if-front-told.false, as_long c.args.told.now c.args.so_far.now c.args.caller s earlier one next), λ shown. c.is_published.ensures.other c.if-is_published.false s.history next.tells shown,
-          c.is_refusing_front.ensures.front yes earlier (line_by one line) (is_next c.args.told.now c.args.so_far.now c.args.caller s earlier one line next) next.lines.tally);
+      rule = (
+        omega (arith, c.if-front-told.false, as_long c.args.told.now c.args.so_far.now c.args.caller s earlier one next),
+        λ shown. c.is_published.ensures.other c.if-is_published.false s.history next.tells shown,
+        c.is_refusing_front.ensures.front yes earlier (line_by one line) (is_next c.args.told.now c.args.so_far.now c.args.caller s earlier one line next) next.lines.tally,
+      );
       logged = All-nil (IsAsLogged s.events s.history);
     }
 
