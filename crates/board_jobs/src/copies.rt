@@ -20,19 +20,15 @@ pub fn copied_file(alloc: Global, file: &FileName) -> Result<FileName, OutOfMemo
     Ok(FileName::new(text).unwrap())
 }
 
-// A copy of the places. There is room for 64 of them, and a `Places` has no more.
-fn copied_places(places: &Places) -> Result<Places, OutOfMemory>
-    ensures { IfOk result (λ copy. copy ≡ places.now) }
+// A copy of the places.
+fn copied_places(places: &Places) -> Places
+    ensures { result ≡ places.now }
 {
-    let places = places.as_slice();
-    if places.len() > 64 {
-        return Err(OutOfMemory);
-    }
     let mut copy = ArrayVec::new();
-    for place in places {
+    for place in places.as_slice() {
         copy.push(*place);
     }
-    Ok(Places::new(copy))
+    Places::new(copy)
 }
 
 /// A copy of the hits. An `Err` is want of memory.
@@ -44,7 +40,7 @@ pub fn copied_hits(alloc: Global, hits: &[Hit]) -> Result<Vec<Hit>, OutOfMemory>
         copy.push(Hit {
             number: hit.number,
             name: copied_name(&hit.name),
-            map: copied_places(&hit.map)?,
+            map: copied_places(&hit.map),
         })?;
     }
     Ok(copy)

@@ -1,5 +1,5 @@
 // Small types over std's collections, for public fields: contracts see each as a list.
-ghost use Rattle.std.specs.Prelude.{◌≡◌, ℕ, List, string_bytes};
+ghost use Rattle.std.specs.Prelude.{◌≡◌, ℕ, ◌≤◌, List, length, string_bytes};
 
 use arrayvec::ArrayVec;
 use std::marker::Model;
@@ -80,9 +80,10 @@ impl Places {
         Places { places }
     }
 
-    /// The places.
+    /// The places: 64 at most.
     pub fn as_slice(&self) -> &[u16]
-        ensures { result.now ≡ self.now }
+        ensures list { result.now ≡ self.now }
+        ensures few { length result.now ≤ 64 }
     {
         self.places.as_slice()
     }
