@@ -5,11 +5,12 @@ use Rattle.htss_defs.specs.QueryGraph.{QueryGraph}
 use Rattle.outside.specs.Files.{File, IsLarge}
 use Rattle.outside.specs.Causes.{Rose, IsAbsent}
 use Rattle.outside.specs.Written.{GrewByFront}
-use Rattle.command_words.specs.Tasks.{Task, check_of, codes_of, find_in, make_of, run_of, task_of}
-use Rattle.command_ends.specs.Outcomes.{Outcome, done, stopped, status_of, text_of}
+use Rattle.command_words.specs.Tasks.{Task, audit_of, check_of, codes_of, find_in, make_of, run_of, task_of}
+use Rattle.command_ends.specs.Outcomes.{Outcome, differs, done, stopped, status_of, text_of}
 use Rattle.command_ends.specs.Outcomes.{Why, not_a_command, out_of_memory, script_faulty, read_failed, file_absent, file_too_large}
 use Rattle.command_ends.specs.FindText.{IsCheckText, IsCodesText, IsFindText, QueryWasRead}
 use Rattle.command_ends.specs.MakeText.{IsMadeFront, IsMadeText}
+use Rattle.command_ends.specs.AuditText.{AuditReads, DiffersAt, IsAuditText}
 use Rattle.command_ends.specs.RunText.{IsRunFrontAtAnyTime, IsRunText, RunReads, ScriptIsFaulty}
 
 -- what a shelf tells and has counted at one moment
@@ -47,10 +48,12 @@ ComesToRead told (check_of sdf) front name = (front ≡ []) × (name ≡ sdf)
 ComesToRead told (codes_of mol) front name = (front ≡ []) × (name ≡ mol)
 ComesToRead told (make_of count seed summary) front name = ⊥
 ComesToRead told (run_of script shape budget) front name = RunReads told script shape budget front name
+ComesToRead told (audit_of script report) front name = (front ≡ []) × AuditReads told script report name
 
 -- the task's script is at fault at this line
 abbrev pub HasFaultyScript : Option (List File) → Task → ℕ → Type 0
 HasFaultyScript told (run_of script shape budget) line = ScriptIsFaulty told script line
+HasFaultyScript told (audit_of script report) line = ScriptIsFaulty told script line
 HasFaultyScript told _ line = ⊥
 
 -- what there may be of the task's text where memory runs out
@@ -66,6 +69,12 @@ IsTextOf told (check_of sdf) text = IsCheckText told sdf text
 IsTextOf told (codes_of mol) text = IsCodesText told mol text
 IsTextOf told (make_of count seed summary) text = IsMadeText count seed summary text
 IsTextOf told (run_of script shape budget) text = IsRunText told script shape budget text
+IsTextOf told (audit_of script report) text = IsAuditText told script report text
+
+-- the task is an audit, whose report differs at this line
+abbrev pub MayDiffer : Option (List File) → Task → ℕ → Type 0
+MayDiffer told (audit_of script report) line = DiffersAt told script report line
+MayDiffer told _ line = ⊥
 
 -- between these moments the task may stop so, after this much of its text: each stop has its cause, but for want of memory
 abbrev pub MayStop : Task → ShelfSeen → ShelfSeen → List ℕ → Why → Type 0
@@ -85,8 +94,10 @@ MayRefuse front _ = ⊥
 -- between these moments the task, if the words have one, may come out so
 abbrev pub MayComeOut : Option Task → ShelfSeen → ShelfSeen → Outcome → Type 0
 MayComeOut None before now (done text) = ⊥
+MayComeOut None before now (differs line) = ⊥
 MayComeOut None before now (stopped front why) = MayRefuse front why
 MayComeOut (Some task) before now (done text) = IsTextOf before.told task text
+MayComeOut (Some task) before now (differs line) = MayDiffer before.told task line
 MayComeOut (Some task) before now (stopped front why) = MayStop task before now front why
 
 -- the text was written and the status answered; or a write failed, and a front of the text was written

@@ -3,6 +3,7 @@ pub mod RecordTexts
 pub mod FindText
 pub mod MakeText
 pub mod RunText
+pub mod AuditText
 pub mod Ends
 pub mod Completeness
 pub mod Stops

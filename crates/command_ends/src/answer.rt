@@ -1,9 +1,9 @@
 // What a command leaves: its text, or what there is of it and why there is no more.
 ghost use Rattle.std.specs.Prelude.{◌≡◌, ◌≤◌, ◌++◌, [], IfOk, IfErr};
-ghost use Rattle.command_ends.specs.Outcomes.{done, stop_why, stopped};
+ghost use Rattle.command_ends.specs.Outcomes.{differs, done, stop_why, stopped};
 ghost use Rattle.command_ends.specs.Ends.{IsWritten, seen_out};
 
-use crate::stop::{Stop, status, write_stop};
+use crate::stop::{Stop, status, write_numbered, write_stop};
 use outside::{Failed, Sink, write_whole};
 
 /// Writes the answer, and answers its status, or 5 where it could not be written.
@@ -30,6 +30,18 @@ pub fn write_text<K: Sink>(out: &mut K, text: &[u8]) -> u8
 {
     match write_whole(out, text) {
         Ok(()) => 0,
+        Err(Failed) => 5,
+    }
+}
+
+/// Writes that a report differs at this line, and answers 1, or 5 where that could not be written. It takes no memory.
+pub fn write_difference<K: Sink>(out: &mut K, at: u64) -> u8
+    ensures written { IsWritten (seen_out K.written K.faults out.old) (seen_out K.written K.faults out.new)
+        (differs at) result }
+    ensures later { K.faults out.old ≤ K.faults out.new }
+{
+    match write_numbered(out, b"differs ", at) {
+        Ok(()) => 1,
         Err(Failed) => 5,
     }
 }

@@ -4,5 +4,5 @@
 mod answer;
 mod stop;
 
-pub use answer::{refuse, write_answer, write_stopped, write_text};
+pub use answer::{refuse, write_answer, write_difference, write_stopped, write_text};
 pub use stop::{Stop, read_stop};

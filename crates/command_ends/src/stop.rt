@@ -63,7 +63,7 @@ pub fn write_stop<K: Sink>(out: &mut K, stop: Stop<'_>) -> Result<(), Failed>
     match stop {
         Stop::Usage => write_whole(out, b"stop 2 usage\n"),
         Stop::Memory => write_whole(out, b"stop 6 memory\n"),
-        Stop::Script(line) => write_script_fault(out, line),
+        Stop::Script(line) => write_numbered(out, b"stop 3 script ", line),
         Stop::Failed(name) => write_named(out, b"stop 4 read ", name),
         Stop::Absent(name) => write_named(out, b"stop 7 absent ", name),
         Stop::TooLarge(name) => write_named(out, b"stop 8 large ", name),
@@ -90,15 +90,15 @@ fn write_named<K: Sink>(out: &mut K, lead: &[u8], name: &str) -> Result<(), Fail
     write_whole(out, b"\n")
 }
 
-// Writes the line of a script that is at fault.
-fn write_script_fault<K: Sink>(out: &mut K, at: u64) -> Result<(), Failed>
+/// Writes a line that ends with a number. It takes no memory.
+pub(crate) fn write_numbered<K: Sink>(out: &mut K, lead: &[u8], at: u64) -> Result<(), Failed>
     ensures ok { OnOk result (K.written out.new
-        ≡ append_known (K.written out.old) (line (codes "stop 3 script " ++ decimal at))) }
+        ≡ append_known (K.written out.old) (line (lead.now ++ decimal at))) }
     ensures err { OnErr result (GrewByFront (K.written out.old) (K.written out.new)
-        (line (codes "stop 3 script " ++ decimal at))) }
+        (line (lead.now ++ decimal at))) }
     ensures failed { OnErr result (Rose (K.faults out.old) (K.faults out.new)) }
     ensures later { K.faults out.old ≤ K.faults out.new }
 {
     let mut digits = Buffer::new();
-    write_named(out, b"stop 3 script ", digits.format(at))
+    write_named(out, lead, digits.format(at))
 }

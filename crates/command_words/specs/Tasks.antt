@@ -8,16 +8,17 @@ use Rattle.htss_defs.specs.Shapes.{IsShape}
 use Rattle.script_text.specs.Grammar.{number_of}
 use Rattle.command_words.specs.Arguments.{Argument, Options, arguments, has_flag, operands, value_of}
 use Rattle.command_words.specs.declared.command.Command.{Command}
-use Rattle.command_words.specs.declared.command.Command.TheVariants.{Check, Codes, Find, Make, Run}
+use Rattle.command_words.specs.declared.command.Command.TheVariants.{Audit, Check, Codes, Find, Make, Run}
 
 -- to find the records of an SDfile into which a query embeds, under a budget; to check the records of an SDfile; to tell the codes
--- of the atoms of a molfile; to make a file of records; to run a script on a registry
+-- of the atoms of a molfile; to make a file of records; to run a script on a registry; to audit a report of such a run
 pub data Task : Type 0 where
   find_in : (sdf query : List ℕ) (budget : ℕ) → Task
   check_of : (sdf : List ℕ) → Task
   codes_of : (mol : List ℕ) → Task
   make_of : (count seed : ℕ) (summary : Bool) → Task
   run_of : (script : List ℕ) (shape : Shape) (budget : ℕ) → Task
+  audit_of : (script report : List ℕ) → Task
 
 -- ---- numbers
 
@@ -110,6 +111,14 @@ abbrev pub run_task : Option (List Argument) → Option Task
 run_task None = None
 run_task (Some arguments) = run_with (only (operands arguments)) (shape_said (λ name. value_of name arguments)) (budget_given arguments)
 
+abbrev pub audit_with : List (List ℕ) → Option Task
+audit_with (script ∷ report ∷ []) = Some (audit_of script report)
+audit_with _ = None
+
+abbrev pub audit_task : Option (List Argument) → Option Task
+audit_task None = None
+audit_task (Some arguments) = audit_with (operands arguments)
+
 -- the task of the words after the program's name, of which the first is the command, where they are a command line
 unfoldable pub task_of : List (List ℕ) → Option Task
 task_of [] = None
@@ -119,7 +128,8 @@ task_of (command ∷ words) =
     else (if bytes_eq command (codes "codes") then option_map codes_of (one_file (arguments no_options words))
     else (if bytes_eq command (codes "make") then make_task (arguments make_options words)
     else (if bytes_eq command (codes "run") then run_task (arguments run_options words)
-    else None))))
+    else (if bytes_eq command (codes "audit") then audit_task (arguments no_options words)
+    else None)))))
 
 -- the task of a command of the code
 abbrev pub command_task : Command → Task
@@ -128,6 +138,7 @@ command_task (Check sdf) = check_of sdf.now
 command_task (Codes mol) = codes_of mol.now
 command_task (Make count seed summary) = make_of count seed summary
 command_task (Run script shape budget) = run_of script.now shape budget
+command_task (Audit script report) = audit_of script.now report.now
 
 -- the shape that a script runs on and the count of the records to be made are in their limits
 abbrev pub IsInLimits : Command → Type 0

@@ -30,4 +30,9 @@ pub enum Command<'a> {
         shape: Shape,
         budget: u64,
     },
+    /// Holds the report against the script and its files.
+    Audit {
+        script: &'a str,
+        report: &'a str,
+    },
 }

@@ -4,7 +4,7 @@ ghost use Rattle.std.specs.Option.{option_map};
 ghost use Rattle.htss_defs.specs.Shapes.{IsShape};
 ghost use Rattle.command_words.specs.Arguments.{arguments};
 ghost use Rattle.command_words.specs.ClapCommand.{value_said, words_said};
-ghost use Rattle.command_words.specs.Tasks.{IsInLimits, check_of, codes_of, command_task, find_options, find_task, find_with, given_or, make_options, make_task, make_with, make_words, no_options, number_in, one_file, only, run_options, run_task, run_with, shape_said};
+ghost use Rattle.command_words.specs.Tasks.{IsInLimits, audit_task, audit_with, check_of, codes_of, command_task, find_options, find_task, find_with, given_or, make_options, make_task, make_with, make_words, no_options, number_in, one_file, only, run_options, run_task, run_with, shape_said};
 
 use crate::Command;
 use crate::parse::read_matches;
@@ -191,6 +191,31 @@ fn shape_in(matches: &ArgMatches<'_>) -> Option<Shape>
         log: log as u32,
         chain: chain as u32,
     })
+}
+
+/// What the words after `audit` say.
+pub(crate) fn audit_command(
+    alloc: Global,
+    words: &[String],
+) -> Result<Option<Command<'_>>, OutOfMemory>
+    ensures task { IfOk result (λ read. option_map command_task read
+        ≡ audit_task (arguments no_options (map string_bytes words.now))) }
+    ensures limits { IfOk result (λ read. IfSome read IsInLimits) }
+{
+    match read_matches(alloc, &[], &[], words)? {
+        Some(matches) => Ok(audit_in(&matches)),
+        None => Ok(None),
+    }
+}
+
+fn audit_in<'a>(matches: &ArgMatches<'a>) -> Option<Command<'a>>
+    ensures task { option_map command_task result ≡ audit_with (words_said matches.now) }
+    ensures limits { IfSome result IsInLimits }
+{
+    match matches.get_raw("words") {
+        Some([script, report]) => Some(Command::Audit { script, report }),
+        _ => None,
+    }
 }
 
 fn budget_in(matches: &ArgMatches<'_>) -> Option<u64>

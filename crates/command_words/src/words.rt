@@ -4,7 +4,9 @@ ghost use Rattle.std.specs.Option.{option_map};
 ghost use Rattle.command_words.specs.Tasks.{IsInLimits, command_task, task_of};
 
 use crate::Command;
-use crate::tasks::{check_command, codes_command, find_command, make_command, run_command};
+use crate::tasks::{
+    audit_command, check_command, codes_command, find_command, make_command, run_command,
+};
 use htss_defs::OutOfMemory;
 use std::alloc::Global;
 
@@ -37,6 +39,7 @@ fn read_command<'a>(
         "codes" => codes_command(alloc, words),
         "make" => make_command(alloc, words),
         "run" => run_command(alloc, words),
+        "audit" => audit_command(alloc, words),
         _ => Ok(None),
     }
 }

@@ -28,10 +28,10 @@ pub(crate) const CARBON: &str =
 const RING: &str =
     "ring\n\n\n  6  6  0  0  0  0  0  0  0  0999 V2000\n    0.0000    0.0000    0.0000 C   0  0\n    0.0000    0.0000    0.0000 C   0  0\n    0.0000    0.0000    0.0000 C   0  0\n    0.0000    0.0000    0.0000 C   0  0\n    0.0000    0.0000    0.0000 C   0  0\n    0.0000    0.0000    0.0000 C   0  0\n  1  2  1  0\n  2  3  2  0\n  3  4  1  0\n  4  5  2  0\n  5  6  1  0\n  6  1  2  0\nM  END\n";
 
-const STORED: &str =
+pub(crate) const STORED: &str =
     "load a.sdf\nsettle\nsearch co.mol\nsettle\nwithdraw 1\nwithdraw 1\nwithdraw 0\nwithdraw 3\nsettle\nsearch co.mol\n";
 
-const STORED_REPORT: &str =
+pub(crate) const STORED_REPORT: &str =
     "htss 1 loaders 1 searchers 1 pages 16 room 100 log 8 chain 65535 budget 100\nload 1 a.sdf\npublished 1 ethanol\npublished 2 ether\nloaded 2\nsearch 3 co.mol front 2\nhit 1 2,3 ethanol\nhit 2 1,2 ether\nhits 2 rows 4 records 2\nwithdraw 5 1 at 3\nwithdraw 6 1 Gone 3\nwithdraw 7 0 Unknown 3\nwithdraw 8 3 Unknown 3\nsearch 10 co.mol front 3\nhit 2 1,2 ether\nhits 1 rows 4 records 1\nlog 3\nevent 1 publish 1 3 2 ethanol\nevent 2 publish 1 3 2 ether\nevent 3 withdraw 1 1\nend\n";
 
 const STORED_WORDS: &[&str] = &[
@@ -53,7 +53,7 @@ const STORED_WORDS: &[&str] = &[
 pub(crate) const HEADER: &str =
     "htss 1 loaders 2 searchers 2 pages 1048576 room 4194304 log 1048576 chain 65535 budget 10000000000\n";
 
-const LOADED: &str = "load 1 a.sdf\npublished 1 ethanol\npublished 2 ether\nloaded 2\n";
+pub(crate) const LOADED: &str = "load 1 a.sdf\npublished 1 ethanol\npublished 2 ether\nloaded 2\n";
 
 // A file, whose text is given in parts.
 #[derive(Clone, Copy, Drop)]
@@ -170,7 +170,7 @@ fn events_of(alloc: Global, ended: &Ended) -> Result<Option<usize>, Fail> {
 }
 
 // Does what the words say over these files: the status, and how many events the board has, if there is one.
-fn done<R: Threads + Wait + Sync>(
+pub(crate) fn done<R: Threads + Wait + Sync>(
     rt: &R,
     alloc: Global,
     files: Vec<NamedBytes>,
@@ -203,13 +203,13 @@ pub(crate) fn is_answered<R: Threads + Wait + Sync + Abort>(
 
 // A script, and the answer, with the text in parts. Of a text that the sink cannot take there is the front.
 #[derive(Clone, Copy, Drop)]
-struct Case {
-    script: &'static str,
-    answer: Answer,
+pub(crate) struct Case {
+    pub(crate) script: &'static str,
+    pub(crate) answer: Answer,
     text: &'static [&'static str],
 }
 
-const RUNS: [Case; 6] = [
+pub(crate) const RUNS: [Case; 6] = [
     Case {
         script: STORED,
         answer: Answer {

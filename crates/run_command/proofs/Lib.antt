@@ -1,5 +1,3 @@
-pub mod JobFiles
-pub mod Rising
 pub mod Running
 pub mod Gone
 pub mod GroupsDone

@@ -65,8 +65,8 @@ use Rattle.run_command.specs.Runs.{AreOnlyFor, AreWithin, HasDone, HasEnd, HaveF
 use Rattle.command_ends.proofs.Causes.{MayStop-earlier, MayStop-of-file}
 use Rattle.run_command.proofs.Gone.{gone_here, heard_nothing}
 use Rattle.run_command.proofs.GroupsDone.{group_kept, groups_kept, one_more}
-use Rattle.run_command.proofs.JobFiles.{split_at, take_next}
-use Rattle.run_command.proofs.Rising.{groups_apart, script_has_group}
+use Rattle.script_files.proofs.JobFiles.{split_at, take_next}
+use Rattle.script_files.proofs.Rising.{groups_apart, script_has_group}
 
 -- ---- files
 

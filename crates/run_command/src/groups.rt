@@ -17,13 +17,13 @@ ghost use Rattle.run_command.specs.Hearing.{HaveGoneAndHeard};
 ghost use Rattle.run_command.specs.Runs.{AreRising, HasDone, IsGroupDone, RunMayStop, StopsAtEnd, with_header};
 
 use crate::apart::Apart;
-use crate::job_files::read_files;
 use crate::texts::{append_blocks, append_header};
 use board::Board;
 use command_ends::Stop;
 use htss_defs::OutOfMemory;
 use outside::Shelf;
 use report_text::are_typed;
+use script_files::read_files;
 use script_run::{Worker, run_group};
 use script_text::{Files, Group};
 use std::alloc::Global;

@@ -4,7 +4,6 @@
 mod apart;
 mod ended;
 mod groups;
-mod job_files;
 mod seats;
 mod texts;
 mod whole_run;

@@ -14,10 +14,11 @@ use crate::groups::run_groups;
 use crate::seats::{close, open};
 use crate::texts::append_history;
 use board::Final;
-use command_ends::{Stop, read_stop, write_stopped, write_text};
+use command_ends::{Stop, write_stopped, write_text};
 use htss_defs::{OutOfMemory, Shape};
-use outside::{Shelf, Sink, read_whole};
-use script_text::{Group, Script, read_script};
+use outside::{Shelf, Sink};
+use script_files::script_of;
+use script_text::Group;
 use std::alloc::Global;
 use std::sync::Wait;
 use std::thread::Threads;
@@ -80,27 +81,6 @@ fn with_board(status: u8, last: Final) -> Ended
             last: Some(last),
         },
         _ => without_board(status),
-    }
-}
-
-// The script of this name.
-#[inline(never)]
-fn script_of<'a, F: Shelf>(alloc: Global, name: &'a str, shelf: &mut F) -> Result<Script, Stop<'a>>
-    ensures read { IfOk result (λ script. ScriptWasRead (F.told shelf.old) name.now script.groups) }
-    ensures stop { IfErr result (λ stop. (shape : Shape) (budget : ℕ) → MayStop (run_of name.now shape budget)
-        (seen F.told F.absent F.faults shelf.old) (seen F.told F.absent F.faults shelf.new)
-        [] (stop_why stop)) }
-    ensures goes_on { ShelfGoesOn
-        (seen F.told F.absent F.faults shelf.old) (seen F.told F.absent F.faults shelf.new) }
-{
-    let bytes = match read_whole(alloc, shelf, name) {
-        Ok(bytes) => bytes,
-        Err(stop) => return Err(read_stop(stop, name)),
-    };
-    match read_script(alloc, &bytes) {
-        Ok(Ok(script)) => Ok(script),
-        Ok(Err(fault)) => Err(Stop::Script(fault.line)),
-        Err(OutOfMemory) => Err(Stop::Memory),
     }
 }
 

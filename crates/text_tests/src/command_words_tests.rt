@@ -31,6 +31,7 @@ fn told<'a>(command: &Command<'a>) -> Told<'a> {
             let numbers = [loaders, searchers, pages, room, log, chain, budget];
             ("run", script, "", numbers)
         }
+        Command::Audit { script, report } => ("audit", script, report, [0; 7]),
     }
 }
 
@@ -113,6 +114,10 @@ const COMMANDS: &[(&str, Told<'static>)] = &[
             "",
             [15, 16, 4194304, 16777216, 1048576, 65535, 0],
         ),
+    ),
+    (
+        "audit a.txt report.txt",
+        ("audit", "a.txt", "report.txt", [0; 7]),
     ),
 ];
 

@@ -12,6 +12,7 @@ use crate::codes::codes_text;
 use crate::find_taker::FindTaker;
 use crate::generate::{make, summary_of};
 use crate::list::read_list;
+use audit_command::audit;
 use command_ends::{Stop, read_stop, refuse, write_answer};
 use command_words::Command;
 use hit_report::push_query_refused;
@@ -49,6 +50,7 @@ pub fn do_command<F: Shelf, K: Sink>(
                 make(alloc, count, seed, out)
             }
         }
+        Command::Audit { script, report } => audit(alloc, script, report, shelf, out),
         Command::Run { .. } => refuse(out, Stop::Usage),
     }
 }

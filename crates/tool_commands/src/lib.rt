@@ -1,4 +1,4 @@
-//! The commands of the program that never wait: records are found, checked and made, and the codes of atoms are told.
+//! The commands of the program that never wait: records are found, checked and made, the codes of atoms are told, and reports are audited.
 #![tactic(auto)]
 
 mod check_taker;

@@ -6,7 +6,7 @@ use Rattle.command_ends.specs.Ends.{EndsAs, seen, seen_out}
 use Rattle.command_ends.proofs.Endings.{EndsAs-stopped}
 use Rattle.run_command.specs.Headline.{IsLastOf}
 use Rattle.run_command.proofs.Lasts.{last_of_stop}
-use Rattle.run_command.proofs.Rising.{script_groups_rise}
+use Rattle.script_files.proofs.Rising.{script_groups_rise}
 use Rattle.run_command.proofs.whole_run.run.Goals as goal
 
 pub returns-in-Err-clause-ends : goal.returns-in-Err-clause-ends

@@ -1,18 +1,19 @@
 -- The files of jobs, read one after the other.
 use Rattle.std.proofs.Common.{◌≡◌, ℕ, suc, ◌+◌, ◌<◌, ◌≤◌, List, [], ◌∷◌, ◌++◌, length, take, drop, append_assoc, refl, sym, ap, subst, ◌∙◌, eqb-true, eq-eqb, ne_eqb, arith}
-use Rattle.std.specs.Prelude.{Option, Some, All, Contains, Bool, true, false, ◌==◌, if◌then◌else◌, slice_index_or}
+use Rattle.std.specs.Prelude.{Option, None, Some, All, Contains, Bool, true, false, ◌==◌, if◌then◌else◌, slice_index_or}
 use Rattle.std.proofs.lemmas.List.{append-nil, map-append, take-append-drop}
 use Rattle.std.proofs.lemmas.Grind.{flat_map-append}
 use Rattle.std.proofs.Math.Seq.{drop-cons, take-suc}
 use Rattle.std.proofs.lemmas.List.Elements.{All-append, All-cons, All-nil, Contains-append_left, Contains-append_right}
 use Rattle.outside.specs.Files.{File, WasRead, file_limit}
 use Rattle.script_text.specs.declared.script.Job.{Job}
+use Rattle.script_text.specs.declared.script.Group.{Group}
 use Rattle.script_text.specs.FilesByLine.{bytes_at}
 use Rattle.command_ends.specs.Outcomes.{Why}
-use Rattle.command_ends.specs.RunText.{AreFilesOf, CanBeRead, HasItsFile, IsFileOf, file_named, files_named}
+use Rattle.command_ends.specs.RunText.{AreFilesOf, CanBeRead, HasItsFile, IsFileOf, file_named, files_named, jobs_of}
 use Rattle.command_ends.specs.Ends.{ShelfGoesOn, ShelfSeen}
 use Rattle.command_ends.specs.Stops.{IsStopOfFile}
-use Rattle.run_command.specs.Runs.{AreOnlyFor, AreWithin, HaveFiles, IsAfter, StopsAmong, lines_of_jobs}
+use Rattle.script_files.specs.JobFiles.{AreOnlyFor, AreWithin, HaveFiles, IsAfter, StopsAmong, lines_of_jobs}
 use Rattle.command_ends.proofs.Causes.{IsStopOfFile-earlier}
 
 -- the file of another line is put beside those of these jobs
@@ -125,5 +126,68 @@ were_read_more told jobs k job lt is were_read read =
     (All-append (CanBeRead told) (files_named (take k jobs)) (file_named job.order) were_read read)
 
 -- the files of one more job stand for it
-pub have_next : (told : Option (List File)) (files : List (ℕ × List ℕ)) (jobs : List Job) (k : ℕ) (job : Job) → k < length jobs → job ≡ slice_index_or jobs k job → HaveFiles told files (take k jobs ++ job ∷ []) → HaveFiles told files (take (k + 1) jobs)
-have_next told files jobs k job lt is have = subst (HaveFiles told files) (sym (take_next jobs k job lt is)) have
+pub have_next : (told : Option (List File)) (files : List (ℕ × List ℕ)) (before jobs : List Job) (k : ℕ) (job : Job) → k < length jobs → job ≡ slice_index_or jobs k job → HaveFiles told files ((before ++ take k jobs) ++ job ∷ []) → HaveFiles told files (before ++ take (k + 1) jobs)
+have_next told files before jobs k job lt is have =
+    subst (HaveFiles told files) (append_assoc before (take k jobs) (job ∷ []) ∙ ap (λ l. before ++ l) (sym (take_next jobs k job lt is))) have
+
+-- no file was read yet
+pub no_files : (told : Option (List File)) (files : List (ℕ × List ℕ)) → files ≡ [] → HaveFiles told files []
+no_files told files none = subst (λ (l : List (ℕ × List ℕ)). HaveFiles told l []) (sym none) (record {
+  are = All-nil (HasItsFile told []);
+  only = λ line bytes at. absurd (nothing bytes at);
+  within = λ line bytes at. absurd (nothing bytes at);
+})
+  where
+    nothing : (bytes : List ℕ) → None ≡ Some bytes → ⊥
+    nothing bytes at = absurd cc
+
+-- ---- the jobs of groups, one after the other
+
+-- the jobs of the groups before this one, its own, and those of the groups after it
+pub groups_around : (groups : List Group) (k : ℕ) (group : Group) → k < length groups → group ≡ slice_index_or groups k group
+    → jobs_of groups ≡ (jobs_of (take k groups) ++ group.jobs) ++ jobs_of (drop (suc k) groups)
+groups_around groups k group lt is =
+    ap jobs_of (split_at groups k group lt) ∙ flat_map-append (λ (g : Group). g.jobs) (take k groups) (slice_index_or groups k group ∷ drop (suc k) groups)
+    ∙ ap (λ (g : Group). jobs_of (take k groups) ++ (g.jobs ++ jobs_of (drop (suc k) groups))) (sym is)
+    ∙ sym (append_assoc (jobs_of (take k groups)) group.jobs (jobs_of (drop (suc k) groups)))
+
+-- the jobs of one more group
+pub groups_next : (groups : List Group) (k : ℕ) (group : Group) → k < length groups → group ≡ slice_index_or groups k group → jobs_of (take (k + 1) groups) ≡ jobs_of (take k groups) ++ group.jobs
+groups_next groups k group lt is =
+    ap jobs_of (take_next groups k group lt is) ∙ flat_map-append (λ (g : Group). g.jobs) (take k groups) (group ∷ []) ∙ ap (λ l. jobs_of (take k groups) ++ l) (append-nil group.jobs)
+
+named_parts : (front jobs back : List Job) → files_named ((front ++ jobs) ++ back) ≡ (files_named front ++ files_named jobs) ++ files_named back
+named_parts front jobs back =
+    flat_map-append (λ (job : Job). file_named job.order) (front ++ jobs) back
+    ∙ ap (λ l. l ++ files_named back) (flat_map-append (λ (job : Job). file_named job.order) front jobs)
+
+-- a file of later jobs could not be read
+pub stops_later : (before middle now : ShelfSeen) (front jobs back : List Job) (why : Why) → ShelfGoesOn before middle → All (CanBeRead before.told) (files_named front) → StopsAmong middle now jobs why
+    → StopsAmong before now ((front ++ jobs) ++ back) why
+stops_later before middle now front jobs back why on were_read stops = record {
+  earlier = files_named front ++ stops.earlier;
+  name = stops.name;
+  later = stops.later ++ files_named back;
+  named = named_parts front jobs back
+      ∙ ap (λ l. (files_named front ++ l) ++ files_named back) stops.named
+      ∙ ap (λ l. l ++ files_named back) (sym (append_assoc (files_named front) stops.earlier (stops.name ∷ stops.later)))
+      ∙ append_assoc (files_named front ++ stops.earlier) (stops.name ∷ stops.later) (files_named back);
+  were_read = All-append (CanBeRead before.told) (files_named front) stops.earlier were_read
+      (subst (λ told. All (CanBeRead told) stops.earlier) on.told stops.were_read);
+  stop = IsStopOfFile-earlier before middle now stops.name why on stops.stop;
+}
+
+-- one more group's files were read
+pub were_read_next : (told : Option (List File)) (groups : List Group) (k : ℕ) (group : Group) → k < length groups → group ≡ slice_index_or groups k group → All (CanBeRead told) (files_named (jobs_of (take k groups)))
+    → All (CanBeRead told) (files_named group.jobs) → All (CanBeRead told) (files_named (jobs_of (take (k + 1) groups)))
+were_read_next told groups k group lt is were_read read =
+    subst (All (CanBeRead told))
+    (sym (ap files_named (groups_next groups k group lt is) ∙ flat_map-append (λ (job : Job). file_named job.order) (jobs_of (take k groups)) group.jobs))
+    (All-append (CanBeRead told) (files_named (jobs_of (take k groups))) (files_named group.jobs) were_read read)
+
+-- a file of a later group could not be read
+pub stops_in_group : (before middle now : ShelfSeen) (groups : List Group) (k : ℕ) (group : Group) (why : Why) → k < length groups → group ≡ slice_index_or groups k group → ShelfGoesOn before middle
+    → All (CanBeRead before.told) (files_named (jobs_of (take k groups))) → StopsAmong middle now group.jobs why → StopsAmong before now (jobs_of groups) why
+stops_in_group before middle now groups k group why lt is on were_read stops =
+    subst (λ (l : List Job). StopsAmong before now l why) (sym (groups_around groups k group lt is))
+    (stops_later before middle now (jobs_of (take k groups)) group.jobs (jobs_of (drop (suc k) groups)) why on were_read stops)

@@ -2,8 +2,8 @@ use Rattle.std.proofs.Common.{ap, sym, ◌∙◌, ◌∷◌, []}
 use Rattle.std.proofs.lemmas.Result.{IfErr-weaker, on_ok_weaker}
 use Rattle.command_ends.specs.RunText.{file_named}
 use Rattle.command_ends.specs.Outcomes.{stop_why}
-use Rattle.run_command.proofs.JobFiles.{have_more, have_none, stops_at_one}
-use Rattle.run_command.proofs.job_files.read_file_of.Goals as goal
+use Rattle.script_files.proofs.JobFiles.{have_more, have_none, stops_at_one}
+use Rattle.script_files.proofs.files.read_file_of.Goals as goal
 
 pub returns-in-Load-clause-have : goal.returns-in-Load-clause-have
 returns-in-Load-clause-have g c =

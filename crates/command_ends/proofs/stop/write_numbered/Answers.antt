@@ -1,4 +1,4 @@
-use Rattle.command_ends.proofs.stop.write_script_fault.Goals as goal
+use Rattle.command_ends.proofs.stop.write_numbered.Goals as goal
 
 pub returns-clause-ok : goal.returns-clause-ok
 returns-clause-ok g c = rw c.format.ensures.text at c.write_named.ensures.ok

@@ -1,7 +1,8 @@
 -- The lines of a script's jobs rise.
 use Rattle.std.proofs.Common.{◌≡◌, ℕ, zero, suc, ◌+◌, ◌<◌, ◌≤◌, List, [], ◌∷◌, ◌++◌, length, take, refl, sym, ap, subst, ◌∙◌, append_assoc, arith}
 use Rattle.std.specs.Prelude.{All, Contains, Option, slice_index_or}
-use Rattle.std.proofs.lemmas.List.{get_or-take, length-take, map-append}
+use Rattle.std.proofs.lemmas.List.{get_or-append-add, get_or-take, length-append, length-take, map-append}
+use Rattle.std.proofs.Math.Seq.{take-append-add}
 use Rattle.std.proofs.lemmas.List.Elements.{All-cons, Contains-append_right}
 use Rattle.std.proofs.lemmas.Grind.{flat_map-append}
 use Rattle.outside.specs.Files.{File}
@@ -13,7 +14,7 @@ use Rattle.script_text.specs.declared.saying.Saying.TheVariants.{Passed, Settles
 use Rattle.script_text.specs.Grammar.{says}
 use Rattle.script_text.specs.Scripts.{groups_from, with_job, with_line}
 use Rattle.command_ends.specs.RunText.{ScriptWasRead, jobs_of}
-use Rattle.run_command.specs.Runs.{AreRising, IsAfter, RisesFrom, lines_of_jobs}
+use Rattle.script_files.specs.JobFiles.{AreRising, IsAfter, RisesFrom, lines_of_jobs}
 
 least_line : (first : ℕ) (jobs : List Job) → RisesFrom first (lines_of_jobs jobs) → (k : ℕ) (d : Job) → k < length jobs → first ≤ (slice_index_or jobs k d).line
 least_line first [] rises k d lt = absurd (omega arith)
@@ -33,6 +34,15 @@ after_those_before jobs rises k d lt =
     let short = length-take k jobs in
     let within : i < k = omega arith in
     subst (λ (j : Job). j.line < (slice_index_or jobs k d).line) (sym (get_or-take k jobs i e within)) (later_line 1 jobs rises i k e d within lt)
+
+-- the same of jobs that come after others
+pub after_those_among : (before jobs : List Job) → AreRising (before ++ jobs) → (k : ℕ) (job : Job) → k < length jobs → job ≡ slice_index_or jobs k job → IsAfter (before ++ take k jobs) job.line
+after_those_among before jobs rises k job lt is =
+    let all : List Job = before ++ jobs in
+    let at : slice_index_or all (length before + k) job ≡ job = get_or-append-add before jobs k job ∙ sym is in
+    let within : length before + k < length all = omega (arith, lt, length-append before jobs) in
+    let after = after_those_before all rises (length before + k) job within in
+    subst (λ l. IsAfter l job.line) (take-append-add before jobs k) (subst (λ (j : Job). IsAfter (take (length before + k) all) j.line) at after)
 
 sooner : (first second : ℕ) (lines : List ℕ) → first ≤ second → RisesFrom second lines → RisesFrom first lines
 sooner first second [] le rises = rises
@@ -90,6 +100,14 @@ groups_apart told script before after group read a b in_before in_group =
     let all = subst (RisesFrom 1) (jobs_around before after group) (script_rises told script (before ++ group ∷ after) read) in
     apart 1 (lines_of_jobs (jobs_of before)) (lines_of_jobs group.jobs) (front_rises 1 (lines_of_jobs (jobs_of before) ++ lines_of_jobs group.jobs) (lines_of_jobs (jobs_of after)) all) a b in_before in_group
 
+-- the lines of all jobs rise, also those of the groups so far
+pub script_jobs_rise : (told : Option (List File)) (script : List ℕ) (groups : List Group) → ScriptWasRead told script groups → AreRising (jobs_of groups)
+script_jobs_rise told script groups read = script_rises told script groups read
+
+pub front_jobs_rise : (all front back : List Job) → all ≡ front ++ back → AreRising all → AreRising front
+front_jobs_rise all front back is rises =
+    front_rises 1 (lines_of_jobs front) (lines_of_jobs back) (subst (RisesFrom 1) (ap lines_of_jobs is ∙ map-append (λ (j : Job). j.line) front back) rises)
+
 -- the lines of each group rise
 each_rises : (before after groups : List Group) → groups ≡ before ++ after → RisesFrom 1 (lines_of_jobs (jobs_of groups)) → All (λ group. AreRising group.jobs) after
 each_rises before [] groups is rises = λ k d lt. absurd (omega arith)
@@ -117,3 +135,22 @@ groups_are_some number (line ∷ lines) = some_group number (says line) (groups_
 
 pub script_has_group : (told : Option (List File)) (script : List ℕ) (groups : List Group) → ScriptWasRead told script groups → 1 ≤ length groups
 script_has_group told script groups read = subst (λ (gs : List Group). 1 ≤ length gs) (sym read.is.groups) (groups_are_some 1 (lines_of read.bytes))
+
+-- ---- a script has no more jobs than lines
+
+few_more : (number : ℕ) (saying : Saying) (groups : List Group) → length (jobs_of (with_line number saying groups)) ≤ length (jobs_of groups) + 1
+few_more number (Asks order) [] = omega arith
+few_more number (Asks order) (group ∷ groups) = omega arith
+few_more number Settles groups = omega arith
+few_more number Passed groups = omega arith
+few_more number Wrong groups = omega arith
+
+few_jobs : (number : ℕ) (lines : List (List ℕ)) → length (jobs_of (groups_from number lines)) ≤ length lines
+few_jobs number [] = omega arith
+few_jobs number (line ∷ lines) =
+    let rest = few_jobs (number + 1) lines in
+    let more = few_more number (says line) (groups_from (number + 1) lines) in
+    omega (arith, rest, more)
+
+pub script_few_jobs : (told : Option (List File)) (script : List ℕ) (groups : List Group) (read : ScriptWasRead told script groups) → length (jobs_of groups) ≤ length (lines_of read.bytes)
+script_few_jobs told script groups read = subst (λ gs. length (jobs_of gs) ≤ length (lines_of read.bytes)) (sym read.is.groups) (few_jobs 1 (lines_of read.bytes))

@@ -1,18 +1,18 @@
-// The files of the jobs of a group, read whole before it begins.
+// The files of jobs, read whole.
 ghost use Rattle.std.specs.Prelude.{◌≡◌, ℕ, ◌≤◌, List, [], ◌∷◌, ◌++◌, ◌==◌, Some, All, OnOk, IfOk, IfErr, if◌then◌else◌};
 ghost use Rattle.outside.specs.Files.{WasRead};
 ghost use Rattle.script_text.specs.declared.script.Job.{Job};
 ghost use Rattle.script_text.specs.FilesByLine.{bytes_at};
-ghost use Rattle.command_ends.specs.RunText.{CanBeRead, file_named};
+ghost use Rattle.command_ends.specs.RunText.{CanBeRead, file_named, files_named, jobs_of};
 ghost use Rattle.command_ends.specs.Outcomes.{stop_why};
 ghost use Rattle.command_ends.specs.Ends.{ShelfGoesOn, seen};
 ghost use Rattle.command_ends.specs.Stops.{IsStopOfFile};
-ghost use Rattle.run_command.specs.Runs.{AreRising, HaveFiles, IsAfter, StopsAmong};
+ghost use Rattle.script_files.specs.JobFiles.{AreRising, HaveFiles, IsAfter, StopsAmong};
 
 use command_ends::{Stop, read_stop};
 use htss_defs::OutOfMemory;
 use outside::{Shelf, read_whole};
-use script_text::{Files, Job, Order};
+use script_text::{Files, Group, Job, Order};
 use std::alloc::Global;
 
 /// The files of these jobs by their lines, read in the order of the lines.
@@ -31,10 +31,53 @@ pub fn read_files<'a, F: Shelf>(
         (seen F.told F.absent F.faults shelf.old) (seen F.told F.absent F.faults shelf.new) }
 {
     let mut files = Files::new(alloc);
-    for job in jobs {
-        read_file_of(alloc, job, shelf, &mut files)?;
+    add_files(alloc, jobs, shelf, &mut files)?;
+    Ok(files)
+}
+
+/// The files of the jobs of all groups by their lines, read in the order of the lines.
+#[inline(never)]
+pub fn read_all_files<'a, F: Shelf>(
+    alloc: Global,
+    groups: &'a [Group],
+    shelf: &mut F,
+) -> Result<Files, Stop<'a>>
+    requires { AreRising (jobs_of groups.now) }
+    ensures have { IfOk result (λ files. HaveFiles (F.told shelf.old) files (jobs_of groups.now)) }
+    ensures stop { IfErr result (λ stop. StopsAmong
+        (seen F.told F.absent F.faults shelf.old) (seen F.told F.absent F.faults shelf.new)
+        (jobs_of groups.now) (stop_why stop)) }
+    ensures goes_on { ShelfGoesOn
+        (seen F.told F.absent F.faults shelf.old) (seen F.told F.absent F.faults shelf.new) }
+{
+    let mut files = Files::new(alloc);
+    for group in groups {
+        add_files(alloc, group.jobs.as_slice(), shelf, &mut files)?;
     }
     Ok(files)
+}
+
+/// Adds the files of these jobs to those of jobs that stand before them.
+#[inline(never)]
+pub fn add_files<'a, F: Shelf>(
+    alloc: Global,
+    jobs: &'a [Job],
+    shelf: &mut F,
+    files: &mut Files,
+) -> Result<(), Stop<'a>>
+    ensures have { OnOk result ((before : List Job) → AreRising (before ++ jobs.now)
+        → HaveFiles (F.told shelf.old) files.old before → HaveFiles (F.told shelf.old) files.new (before ++ jobs.now)) }
+    ensures read { OnOk result (All (CanBeRead (F.told shelf.old)) (files_named jobs.now)) }
+    ensures stop { IfErr result (λ stop. StopsAmong
+        (seen F.told F.absent F.faults shelf.old) (seen F.told F.absent F.faults shelf.new)
+        jobs.now (stop_why stop)) }
+    ensures goes_on { ShelfGoesOn
+        (seen F.told F.absent F.faults shelf.old) (seen F.told F.absent F.faults shelf.new) }
+{
+    for job in jobs {
+        read_file_of(alloc, job, shelf, files)?;
+    }
+    Ok(())
 }
 
 // Reads the file of a job, if it has one, and puts it by the job's line.

@@ -1,0 +1,2 @@
+pub mod JobFiles
+pub mod Rising

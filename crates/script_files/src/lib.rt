@@ -1,0 +1,8 @@
+//! The script of a command and the files of its jobs, as they are read.
+#![tactic(auto)]
+
+mod files;
+mod script;
+
+pub use files::{add_files, read_all_files, read_files};
+pub use script::script_of;
