@@ -10,7 +10,7 @@ use Rattle.script_text.specs.declared.script.Order.{Order}
 use Rattle.script_text.specs.declared.script.Order.TheVariants.{Load, Withdraw, Search}
 use Rattle.report_text.specs.Values.{HasWord}
 use Rattle.report_rules.specs.Answers.{Answer, RecordAnswer, JobAnswer, SearchAnswer, loaded, withdrew, searched, to_record, to_search, to_withdrawal, not_read, hits_at, over_at, answers_of}
-use Rattle.report_rules.specs.Dealing.{Caller, loader, searcher, Dealt, caller_of, dealt_from, loads_in, searches_in}
+use Rattle.report_rules.specs.Dealing.{Caller, loader, searcher, Dealt, caller_in_turn, dealt_from, loads_in, searches_in}
 use Rattle.report_rules.specs.Reports.{Done, IsAnswerTo, IsByItsFile, IsSearchFor, budget_or}
 use Rattle.report_rules.proofs.CodeWords.{query_has}
 
@@ -56,7 +56,7 @@ asked_search (Some bytes) budget number file own (loaded named answers) is = abs
 asked_search (Some bytes) budget number file own (withdrew target answer) is = absurd is
 asked_search (Some bytes) budget number file own (searched named answer) is = (asked_for bytes (budget_or budget own) answer is.1, tt)
 
-asked_as_dealt : (k : Shape) (loads searches : ℕ) (bytes : Option (List ℕ)) (budget : ℕ) (order : Order) (answer : JobAnswer) → IsAnswerTo bytes budget order answer → AreAsked (caller_of k loads searches order) (answers_of answer)
+asked_as_dealt : (k : Shape) (loads searches : ℕ) (bytes : Option (List ℕ)) (budget : ℕ) (order : Order) (answer : JobAnswer) → IsAnswerTo bytes budget order answer → AreAsked (caller_in_turn k loads searches order) (answers_of answer)
 asked_as_dealt k loads searches bytes budget (Load file) answer is = asked_free (1 + loads % k.loaders) (answers_of answer)
 asked_as_dealt k loads searches bytes budget (Withdraw number) answer is = asked_free (1 + loads % k.loaders) (answers_of answer)
 asked_as_dealt k loads searches bytes budget (Search file own) answer is = asked_search bytes budget (1 + searches % k.searchers) file own answer is
@@ -68,9 +68,9 @@ tail_same : (x y : Dealt) (xs ys : List Dealt) → x ∷ xs ≡ y ∷ ys → xs 
 tail_same x y xs ys e = cc
 
 module _ (k : Shape) (files : List (ℕ × List ℕ)) (budget group : ℕ) where
-  one_asked : (loads searches : ℕ) (job : Job) (one : Done) → one.dealt ≡ record { group = group; caller = caller_of k loads searches job.order; job = job } → IsByItsFile files budget one → AreAsked one.dealt.caller (answers_of one.answer)
+  one_asked : (loads searches : ℕ) (job : Job) (one : Done) → one.dealt ≡ record { group = group; caller = caller_in_turn k loads searches job.order; job = job } → IsByItsFile files budget one → AreAsked one.dealt.caller (answers_of one.answer)
   one_asked loads searches job one is by =
-      let caller : one.dealt.caller ≡ caller_of k loads searches job.order = ap (λ (d : Dealt). d.caller) is in
+      let caller : one.dealt.caller ≡ caller_in_turn k loads searches job.order = ap (λ (d : Dealt). d.caller) is in
       let order : one.dealt.job.order ≡ job.order = ap (λ (d : Dealt). d.job.order) is in
       subst (λ c. AreAsked c (answers_of one.answer)) (sym caller)
       (asked_as_dealt k loads searches (bytes_at files one.dealt.job.line) budget job.order one.answer (subst (λ o. IsAnswerTo (bytes_at files one.dealt.job.line) budget o one.answer) order by))
@@ -80,7 +80,7 @@ module _ (k : Shape) (files : List (ℕ × List ℕ)) (budget group : ℕ) where
   all_asked loads searches jobs [] are by = tt
   all_asked loads searches [] (one ∷ more) are by = absurd cc
   all_asked loads searches (job ∷ jobs) (one ∷ more) are by =
-      let first : Dealt = record { group = group; caller = caller_of k loads searches job.order; job = job } in
+      let first : Dealt = record { group = group; caller = caller_in_turn k loads searches job.order; job = job } in
       let rest : List Dealt = dealt_from k group (loads + loads_in job.order) (searches + searches_in job.order) jobs in (
         one_asked loads searches job one (head_same one.dealt first (map (λ (d : Done). d.dealt) more) rest are) (All-head (IsByItsFile files budget) one more by),
         all_asked (loads + loads_in job.order) (searches + searches_in job.order) jobs more (tail_same one.dealt first (map (λ (d : Done). d.dealt) more) rest are) (All-tail (IsByItsFile files budget) one more by),

@@ -5,7 +5,7 @@ use Rattle.std.proofs.lemmas.List.Elements.{All-nil, All-cons, filter-append}
 use Rattle.htss_defs.specs.declared.shape.Shape.{Shape}
 use Rattle.report_rules.specs.Answers.{Answer}
 use Rattle.report_rules.specs.Dealing.{Caller, loader, searcher}
-use Rattle.report_rules.specs.Rules.{number_of}
+use Rattle.report_rules.specs.Rules.{caller_number}
 use Rattle.board_core.specs.declared.account.Account.{Account}
 use Rattle.board_core.specs.declared.account.Who.{Who}
 use Rattle.board_core.specs.declared.account.Who.TheVariants.{Loader}
@@ -50,7 +50,7 @@ answered_seen k c a b xs are = (answered_grows k c a b xs are).seen
 -- ---- a caller that goes on
 
 -- the number that an account has is its caller's
-pub number_same : (c : Caller) (w : Who) → who_of c ≡ w → number_in w ≡ number_of c
+pub number_same : (c : Caller) (w : Who) → who_of c ≡ w → number_in w ≡ caller_number c
 number_same (loader number) w same = ap number_in (sym same)
 number_same (searcher number) w same = ap number_in (sym same)
 

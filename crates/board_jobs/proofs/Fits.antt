@@ -11,7 +11,7 @@ use Rattle.script_text.specs.declared.script.Job.{Job}
 use Rattle.script_text.specs.declared.script.Order.{Order}
 use Rattle.script_text.specs.declared.script.Order.TheVariants.{Load, Withdraw, Search}
 use Rattle.report_rules.specs.Answers.{Answer, JobAnswer, loaded, withdrew, searched, to_search, answers_of}
-use Rattle.report_rules.specs.Dealing.{Caller, loader, searcher, Dealt, caller_of, dealt_from, loads_in, searches_in}
+use Rattle.report_rules.specs.Dealing.{Caller, loader, searcher, Dealt, caller_in_turn, dealt_from, loads_in, searches_in}
 use Rattle.report_rules.specs.Reports.{Done, IsAnswerTo, IsByItsFile}
 use Rattle.report_rules.specs.Rules.{is_same}
 use Rattle.board_jobs.specs.Groups.{place_of}
@@ -51,7 +51,7 @@ abbrev pub AllFit : Shape → ℕ → List Done → Type 0
 AllFit k group [] = Unit {0}
 AllFit k group (one ∷ more) = Fits k group one × AllFit k group more
 
-caller_is : (k : Shape) (loads searches : ℕ) (order : Order) → IsShape k → IsCaller k (caller_of k loads searches order)
+caller_is : (k : Shape) (loads searches : ℕ) (order : Order) → IsShape k → IsCaller k (caller_in_turn k loads searches order)
 caller_is k loads searches (Load file) shape = let some = (shape Loaders).0 in let below = mod_below loads k.loaders some in (omega arith, omega arith)
 caller_is k loads searches (Withdraw number) shape = let some = (shape Loaders).0 in let below = mod_below loads k.loaders some in (omega arith, omega arith)
 caller_is k loads searches (Search file budget) shape = let some = (shape Searchers).0 in let below = mod_below searches k.searchers some in (omega arith, omega arith)
@@ -67,7 +67,7 @@ searched_none (Some bytes) budget number file own (loaded named answers) is = ab
 searched_none (Some bytes) budget number file own (withdrew target answer) is = absurd is
 searched_none (Some bytes) budget number file own (searched named answer) is = All-cons (MayOwn (searcher number)) (to_search answer) [] refl (All-nil (MayOwn (searcher number)))
 
-owns_as_dealt : (k : Shape) (loads searches : ℕ) (bytes : Option (List ℕ)) (budget : ℕ) (order : Order) (answer : JobAnswer) → IsAnswerTo bytes budget order answer → All (MayOwn (caller_of k loads searches order)) (answers_of answer)
+owns_as_dealt : (k : Shape) (loads searches : ℕ) (bytes : Option (List ℕ)) (budget : ℕ) (order : Order) (answer : JobAnswer) → IsAnswerTo bytes budget order answer → All (MayOwn (caller_in_turn k loads searches order)) (answers_of answer)
 owns_as_dealt k loads searches bytes budget (Load file) answer is = free (1 + loads % k.loaders) (answers_of answer)
 owns_as_dealt k loads searches bytes budget (Withdraw number) answer is = free (1 + loads % k.loaders) (answers_of answer)
 owns_as_dealt k loads searches bytes budget (Search file own) answer is = searched_none bytes budget (1 + searches % k.searchers) file own answer is
@@ -80,9 +80,9 @@ tail_same x y xs ys e = cc
 
 module _ (k : Shape) (files : List (ℕ × List ℕ)) (budget group : ℕ) (shape : IsShape k) where
   -- a job that was dealt, and is done by its file
-  one_fits : (loads searches : ℕ) (job : Job) (one : Done) → one.dealt ≡ record { group = group; caller = caller_of k loads searches job.order; job = job } → IsByItsFile files budget one → Fits k group one
+  one_fits : (loads searches : ℕ) (job : Job) (one : Done) → one.dealt ≡ record { group = group; caller = caller_in_turn k loads searches job.order; job = job } → IsByItsFile files budget one → Fits k group one
   one_fits loads searches job one is by =
-      let caller : one.dealt.caller ≡ caller_of k loads searches job.order = ap (λ (d : Dealt). d.caller) is in
+      let caller : one.dealt.caller ≡ caller_in_turn k loads searches job.order = ap (λ (d : Dealt). d.caller) is in
       let order : one.dealt.job.order ≡ job.order = ap (λ (d : Dealt). d.job.order) is in
       record {
         here = ap (λ (d : Dealt). d.group) is;
@@ -95,7 +95,7 @@ module _ (k : Shape) (files : List (ℕ × List ℕ)) (budget group : ℕ) (shap
   all_fit loads searches jobs [] are by = tt
   all_fit loads searches [] (one ∷ more) are by = absurd cc
   all_fit loads searches (job ∷ jobs) (one ∷ more) are by =
-      let first : Dealt = record { group = group; caller = caller_of k loads searches job.order; job = job } in
+      let first : Dealt = record { group = group; caller = caller_in_turn k loads searches job.order; job = job } in
       let rest : List Dealt = dealt_from k group (loads + loads_in job.order) (searches + searches_in job.order) jobs in (
         one_fits loads searches job one (head_same one.dealt first (map (λ (d : Done). d.dealt) more) rest are) (All-head (IsByItsFile files budget) one more by),
         all_fit (loads + loads_in job.order) (searches + searches_in job.order) jobs more (tail_same one.dealt first (map (λ (d : Done). d.dealt) more) rest are) (All-tail (IsByItsFile files budget) one more by),

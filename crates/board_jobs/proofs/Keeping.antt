@@ -8,7 +8,7 @@ use Rattle.report_rules.specs.Answers.{Answer, to_record, to_search, to_withdraw
 use Rattle.report_rules.specs.Answers.{published, no_room, no_page, chain_full, log_full}
 use Rattle.report_rules.specs.Answers.{not_accepted, taken, not_read, hits_at, over_at}
 use Rattle.report_rules.specs.Dealing.{Caller, loader, searcher}
-use Rattle.report_rules.specs.Rules.{Line, number_of, KeepsAnswer}
+use Rattle.report_rules.specs.Rules.{Line, caller_number, KeepsAnswer}
 use Rattle.board_core.specs.declared.account.Account.{Account}
 use Rattle.board_core.specs.declared.entry.Entry.TheVariants as entry
 use Rattle.board_core.specs.declared.entry.Reply.TheVariants.{Hits, OverBudget}
@@ -61,7 +61,7 @@ module _ (k : Shape) (p : Parts) where
       → Each (IsTrueLog k (history_of k p)) (tells line.caller answer) → All (IsOwn (history_of k p) line.caller) (own_number answer) → KeepsAnswer k (history_of k p) earlier line answer
   answer_keeps earlier line a b (to_record (not_accepted at code)) is s before told owns = tt
   answer_keeps earlier line a b (to_record (taken one (published number))) is s before told owns = (
-    told 0 (entry.Published number (Publish (number_of line.caller) one.name one.mol)) refl,
+    told 0 (entry.Published number (Publish (caller_number line.caller) one.name one.mol)) refl,
     new_is (history_of k p) earlier line a number before (first_of (λ n. a.log.seen < n) number is.fresh) (first_of (IsOwn (history_of k p) line.caller) number owns),
   )
   answer_keeps earlier line a b (to_record (taken one (no_room left need))) is s before told owns = (is.says.0, is.says.1, ap (λ n. left + n) before.room ∙ is.says.2)
@@ -70,7 +70,7 @@ module _ (k : Shape) (p : Parts) where
   answer_keeps earlier line a b (to_record (taken one (log_full front))) is s before told owns =
       (is.says.0, (told 0 (entry.LogFull front) refl).0, refusing_is (history_of k p) earlier line a front before (first_of (λ n. a.log.seen ≤ n) front is.fronts))
   answer_keeps earlier line a b (to_withdrawal number (At event)) is s before told owns = (
-    told 0 (entry.Withdrawn event (Withdraw (number_of line.caller) number)) refl,
+    told 0 (entry.Withdrawn event (Withdraw (caller_number line.caller) number)) refl,
     new_is (history_of k p) earlier line a event before (first_of (λ n. a.log.seen < n) event is.fresh) (first_of (IsOwn (history_of k p) line.caller) event owns),
   )
   answer_keeps earlier line a b (to_withdrawal number (Unknown front)) is s before told owns =

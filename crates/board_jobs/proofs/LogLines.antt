@@ -13,7 +13,7 @@ use Rattle.htss_defs.specs.Molecule.{Molecule}
 use Rattle.htss_defs.specs.Name.{IsName}
 use Rattle.htss_defs.specs.Shapes.{IsShape}
 use Rattle.report_text.specs.Values.{IsLogLine}
-use Rattle.report_rules.specs.Reports.{log_line, IsByLoader}
+use Rattle.report_rules.specs.Reports.{log_line, IsByItsLoader}
 use Rattle.board_core.specs.Blocks.{name_in, molecule_in}
 use Rattle.board_core.specs.Histories.{block_at, history_of, shown_by}
 use Rattle.board_core.specs.LogWord.{kind_in, loader_in, target_in}
@@ -40,7 +40,7 @@ shown_record block word caller name mol record_is shown = go (kind_in word == 2)
         subst (λ (m : Molecule). IsOfRecord name m) made
         (subst (λ (n : List ℕ). IsOfRecord n (molecule_in block)) named (record { named = r.name; atoms = r.molecule.atoms.1; bonds = r.molecule.bonds }))
 
-event_line : (k : Shape) (p : Parts) (number : ℕ) (e : Event) → IsShape k → Known k p → HasEvent (history_of k p) number e → IsByLoader k e → IsLogLine (log_line e)
+event_line : (k : Shape) (p : Parts) (number : ℕ) (e : Event) → IsShape k → Known k p → HasEvent (history_of k p) number e → IsByItsLoader k e → IsLogLine (log_line e)
 event_line k p number (Publish caller name mol) shape known has by =
     let stands = event_stands k p number (Publish caller name mol) has in
     let some = has.0 in
@@ -53,7 +53,7 @@ event_line k p number (Withdraw caller target) shape known has by =
     (omega (arith, by.1, (shape Loaders).1), omega (arith, before, stands.0, known.front, (shape Log).1))
 
 -- the events that the words show, each by a loader of the board, have lines whose values are in range
-pub log_lines : (k : Shape) (p : Parts) → IsShape k → Known k p → All (IsByLoader k) (history_of k p) → All (λ e. IsLogLine (log_line e)) (history_of k p)
+pub log_lines : (k : Shape) (p : Parts) → IsShape k → Known k p → All (IsByItsLoader k) (history_of k p) → All (λ e. IsLogLine (log_line e)) (history_of k p)
 log_lines k p shape known by =
     All-from_get_or (λ e. IsLogLine (log_line e)) (history_of k p) no_event
     (λ i within.

@@ -13,7 +13,7 @@ use Rattle.report_rules.specs.Answers.{Answer, to_record, to_search, to_withdraw
 use Rattle.report_rules.specs.Answers.{Fate, published, no_room, no_page, chain_full, log_full}
 use Rattle.report_rules.specs.Answers.{not_accepted, taken, SearchAnswer, not_read, hits_at, over_at}
 use Rattle.report_rules.specs.Dealing.{Caller}
-use Rattle.report_rules.specs.Rules.{number_of}
+use Rattle.report_rules.specs.Rules.{caller_number}
 use Rattle.board_core.specs.declared.account.Account.{Account}
 use Rattle.board_core.specs.declared.account.Who.TheVariants.{Loader}
 use Rattle.board_core.specs.declared.entry.Entry.{Entry}
@@ -80,8 +80,8 @@ search_own (over_at asked budget front) = refl
 -- its entries tell of the event that it has added
 tells_own : (caller : Caller) (answer : Answer) → own_numbers (tells caller answer) ≡ own_number answer
 tells_own caller (to_record (not_accepted line code)) = refl
-tells_own caller (to_record (taken one fate)) = fate_own (number_of caller) one fate
-tells_own caller (to_withdrawal number answer) = withdrawal_own (number_of caller) number answer
+tells_own caller (to_record (taken one fate)) = fate_own (caller_number caller) one fate
+tells_own caller (to_withdrawal number answer) = withdrawal_own (caller_number caller) number answer
 tells_own caller (to_search answer) = search_own answer
 
 -- an answer that has at most one number of its own, which is seen only afterwards

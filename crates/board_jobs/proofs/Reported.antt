@@ -13,7 +13,7 @@ use Rattle.htss_defs.specs.Shapes.{IsShape}
 use Rattle.script_text.specs.declared.script.Group.{Group}
 use Rattle.report_text.specs.Typed.{IsTypedBlock}
 use Rattle.report_text.specs.Values.{IsLogLine, IsU64}
-use Rattle.report_rules.specs.Reports.{Done, done_block, log_line, IsByLoader, IsToldBy, IsReport}
+use Rattle.report_rules.specs.Reports.{Done, done_block, log_line, IsByItsLoader, IsToldBy, IsReport}
 use Rattle.report_rules.proofs.InGrammar.{AreShort, in_grammar}
 use Rattle.board_core.specs.declared.account.Account.{Account}
 use Rattle.board_core.specs.Each.{Each}
@@ -43,13 +43,13 @@ legal_first h front few legal = record {
 }
 
 -- the board's word for an event by a loader, and the report's
-by_loader : (k : Shape) (e : Event) → log.IsByLoader k e → IsByLoader k e
+by_loader : (k : Shape) (e : Event) → log.IsByLoader k e → IsByItsLoader k e
 by_loader k (Publish caller name mol) by = by
 by_loader k (Withdraw caller number) by = by
 
-all_by_loaders : (k : Shape) (h : List Event) → Each (log.IsByLoader k) h → All (IsByLoader k) h
-all_by_loaders k [] each = All-nil (IsByLoader k)
-all_by_loaders k (e ∷ es) each = All-cons (IsByLoader k) e es (by_loader k e (each 0 e refl)) (all_by_loaders k es (λ j. each (suc j)))
+all_by_loaders : (k : Shape) (h : List Event) → Each (log.IsByLoader k) h → All (IsByItsLoader k) h
+all_by_loaders k [] each = All-nil (IsByItsLoader k)
+all_by_loaders k (e ∷ es) each = All-cons (IsByItsLoader k) e es (by_loader k e (each 0 e refl)) (all_by_loaders k es (λ j. each (suc j)))
 
 -- ---- the end of a board
 
@@ -74,7 +74,7 @@ reported k files budget groups before middle last front done p shape new are gon
     let counted : length (history_of k p) ≡ p.log.front = history_counted k p in
     let room : p.log.front ≤ k.log = known.front in
     let legal = subst IsLegal (sym is) (legal_first (history_of k p) front few known.legal) in
-    let loaders = subst (All (IsByLoader k)) (sym is) (All-take (IsByLoader k) front (history_of k p) (all_by_loaders k (history_of k p) end.loaders)) in
+    let loaders = subst (All (IsByItsLoader k)) (sym is) (All-take (IsByItsLoader k) front (history_of k p) (all_by_loaders k (history_of k p) end.loaders)) in
     let tells = subst (λ l. IsToldBy groups files k budget l (map done_block done)) (sym is) (told k files budget groups before middle last front done p shape new are gone end) in
     let within : length h ≤ k.log = omega (arith, long, few, counted, room) in
     let first = All-take (λ e. IsLogLine (log_line e)) front (history_of k p) (log_lines k p shape known (all_by_loaders k (history_of k p) end.loaders)) in

@@ -8,7 +8,7 @@ use Rattle.report_rules.specs.Answers.{Answer, to_record, to_search, to_withdraw
 use Rattle.report_rules.specs.Answers.{Fate, published, no_room, no_page, chain_full, log_full}
 use Rattle.report_rules.specs.Answers.{not_accepted, taken, SearchAnswer, not_read, hits_at, over_at}
 use Rattle.report_rules.specs.Dealing.{Caller}
-use Rattle.report_rules.specs.Rules.{number_of}
+use Rattle.report_rules.specs.Rules.{caller_number}
 use Rattle.board_core.specs.declared.account.Account.{Account}
 use Rattle.board_core.specs.declared.entry.Entry.{Entry}
 use Rattle.board_core.specs.Answers.{answers_in}
@@ -40,6 +40,6 @@ search_entries (over_at asked budget front) = Answered asked budget front OverBu
 -- the entries that an answer of this caller prints: one, or none where a record or a query is refused by its own file
 abbrev pub tells : Caller → Answer → List Entry
 tells caller (to_record (not_accepted line code)) = []
-tells caller (to_record (taken one fate)) = fate_entries (number_of caller) one fate
-tells caller (to_withdrawal number answer) = withdrawal_entries (number_of caller) number answer
+tells caller (to_record (taken one fate)) = fate_entries (caller_number caller) one fate
+tells caller (to_withdrawal number answer) = withdrawal_entries (caller_number caller) number answer
 tells caller (to_search answer) = search_entries answer

@@ -4,7 +4,7 @@ use Rattle.std.specs.Prelude.{Option, Some, None}
 use Rattle.outside.specs.Files.{File, IsLarge}
 use Rattle.outside.specs.Causes.{Rose, IsAbsent}
 use Rattle.command_words.specs.Tasks.{Task, audit_of, check_of, codes_of, find_in, make_of, run_of}
-use Rattle.command_ends.specs.Outcomes.{Outcome, differs, done, stopped, status_of}
+use Rattle.command_ends.specs.Outcomes.{CommandEnd, differs, done, stopped, status_of}
 use Rattle.command_ends.specs.Outcomes.{not_a_command, out_of_memory, script_faulty, read_failed, file_absent, file_too_large}
 use Rattle.command_ends.specs.RunText.{CanBeRead}
 use Rattle.command_ends.specs.Ends.{EndsAs, IsWritten, MayComeOut, MayDiffer, ShelfSeen, SinkSeen}
@@ -50,7 +50,7 @@ different_end told (run_of script shape budget) line may = absurd may
 different_end told (audit_of script report) line may = inr refl
 
 module _ (task : Task) (shelf shelf_now : ShelfSeen) (out out_now : SinkSeen) (free : IsUnhindered task shelf shelf_now out out_now) where
-  comes_out : (outcome : Outcome) → MayComeOut (Some task) shelf shelf_now outcome → IsEndOf task (status_of outcome) ⊎ (status_of outcome ≡ 6)
+  comes_out : (outcome : CommandEnd) → MayComeOut (Some task) shelf shelf_now outcome → IsEndOf task (status_of outcome) ⊎ (status_of outcome ≡ 6)
   comes_out (done text) may = inl (whole_end task)
   comes_out (differs line) may = inl (different_end shelf.told task line may)
   comes_out (stopped front not_a_command) may = absurd may
@@ -60,7 +60,7 @@ module _ (task : Task) (shelf shelf_now : ShelfSeen) (out out_now : SinkSeen) (f
   comes_out (stopped front (file_absent name)) may = absurd (not_absent shelf.told free.files name shelf.absent shelf_now.absent free.told (free.there front name may.0) may.1)
   comes_out (stopped front (file_too_large name)) may = absurd (not_large shelf.told free.files name free.told (free.there front name may.0) may.1)
 
-refused_as : (shelf shelf_now : ShelfSeen) (outcome : Outcome) → MayComeOut None shelf shelf_now outcome → (status_of outcome ≡ 2) ⊎ (status_of outcome ≡ 6)
+refused_as : (shelf shelf_now : ShelfSeen) (outcome : CommandEnd) → MayComeOut None shelf shelf_now outcome → (status_of outcome ≡ 2) ⊎ (status_of outcome ≡ 6)
 refused_as shelf shelf_now (done text) may = absurd may
 refused_as shelf shelf_now (differs line) may = absurd may
 refused_as shelf shelf_now (stopped front not_a_command) may = inl refl
@@ -71,7 +71,7 @@ refused_as shelf shelf_now (stopped front (file_absent name)) may = absurd may
 refused_as shelf shelf_now (stopped front (file_too_large name)) may = absurd may
 
 -- what was written tells the outcome
-written_as : (Is : ℕ → Type 0) (out out_now : SinkSeen) (outcome : Outcome) (status : ℕ) → (Rose out.faults out_now.faults → ⊥) → IsWritten out out_now outcome status → Is (status_of outcome) ⊎ (status_of outcome ≡ 6)
+written_as : (Is : ℕ → Type 0) (out out_now : SinkSeen) (outcome : CommandEnd) (status : ℕ) → (Rose out.faults out_now.faults → ⊥) → IsWritten out out_now outcome status → Is (status_of outcome) ⊎ (status_of outcome ≡ 6)
     → Is status ⊎ (status ≡ 6)
 written_as Is out out_now outcome status sound (inl whole) (inl is) = inl (subst Is (sym whole.0) is)
 written_as Is out out_now outcome status sound (inl whole) (inr is) = inr (whole.0 ∙ is)

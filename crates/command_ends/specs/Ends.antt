@@ -6,7 +6,7 @@ use Rattle.outside.specs.Files.{File, IsLarge}
 use Rattle.outside.specs.Causes.{Rose, IsAbsent}
 use Rattle.outside.specs.Written.{GrewByFront}
 use Rattle.command_words.specs.Tasks.{Task, audit_of, check_of, codes_of, find_in, make_of, run_of, task_of}
-use Rattle.command_ends.specs.Outcomes.{Outcome, differs, done, stopped, status_of, text_of}
+use Rattle.command_ends.specs.Outcomes.{CommandEnd, differs, done, stopped, status_of, text_of}
 use Rattle.command_ends.specs.Outcomes.{Why, not_a_command, out_of_memory, script_faulty, read_failed, file_absent, file_too_large}
 use Rattle.command_ends.specs.FindText.{IsCheckText, IsCodesText, IsFindText, QueryWasRead}
 use Rattle.command_ends.specs.MakeText.{IsMadeFront, IsMadeText}
@@ -92,7 +92,7 @@ MayRefuse front out_of_memory = front ≡ []
 MayRefuse front _ = ⊥
 
 -- between these moments the task, if the words have one, may come out so
-abbrev pub MayComeOut : Option Task → ShelfSeen → ShelfSeen → Outcome → Type 0
+abbrev pub MayComeOut : Option Task → ShelfSeen → ShelfSeen → CommandEnd → Type 0
 MayComeOut None before now (done text) = ⊥
 MayComeOut None before now (differs line) = ⊥
 MayComeOut None before now (stopped front why) = MayRefuse front why
@@ -101,14 +101,14 @@ MayComeOut (Some task) before now (differs line) = MayDiffer before.told task li
 MayComeOut (Some task) before now (stopped front why) = MayStop task before now front why
 
 -- the text was written and the status answered; or a write failed, and a front of the text was written
-abbrev pub IsWritten : SinkSeen → SinkSeen → Outcome → ℕ → Type 0
+abbrev pub IsWritten : SinkSeen → SinkSeen → CommandEnd → ℕ → Type 0
 IsWritten before now outcome status =
     ((status ≡ status_of outcome) × (now.written ≡ append_known before.written (text_of outcome)))
     ⊎ ((status ≡ 5) × Rose before.faults now.faults × GrewByFront before.written now.written (text_of outcome))
 
 -- the task, or words that have none, end with this status
 pub record EndsAs (task : Option Task) (shelf shelf_now : ShelfSeen) (out out_now : SinkSeen) (status : ℕ) : Type 0 where
-  pub outcome : Outcome
+  pub outcome : CommandEnd
   pub may : MayComeOut task shelf shelf_now outcome
   pub written : IsWritten out out_now outcome status
   pub shelf_goes_on : ShelfGoesOn shelf shelf_now

@@ -16,10 +16,10 @@ pub data Why : Type 0 where
   file_too_large : (name : List ℕ) → Why
 
 -- the whole text; that of an audit whose report differs at this line; or what there was of the text, and why there is no more
-pub data Outcome : Type 0 where
-  done : (text : List ℕ) → Outcome
-  differs : (line : ℕ) → Outcome
-  stopped : (front : List ℕ) (why : Why) → Outcome
+pub data CommandEnd : Type 0 where
+  done : (text : List ℕ) → CommandEnd
+  differs : (line : ℕ) → CommandEnd
+  stopped : (front : List ℕ) (why : Why) → CommandEnd
 
 abbrev pub status_why : Why → ℕ
 status_why not_a_command = 2
@@ -44,13 +44,13 @@ fault_line (file_too_large name) = line (codes "stop 8 large " ++ name)
 abbrev pub difference_line : ℕ → List ℕ
 difference_line at = line (codes "differs " ++ decimal at)
 
-abbrev pub status_of : Outcome → ℕ
+abbrev pub status_of : CommandEnd → ℕ
 status_of (done text) = 0
 status_of (differs at) = 1
 status_of (stopped front why) = status_why why
 
 -- the bytes that are written
-abbrev pub text_of : Outcome → List ℕ
+abbrev pub text_of : CommandEnd → List ℕ
 text_of (done text) = text
 text_of (differs at) = difference_line at
 text_of (stopped front why) = front ++ fault_line why

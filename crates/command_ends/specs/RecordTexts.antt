@@ -27,14 +27,14 @@ refused_lines place (accepted name mol ∷ outcomes) = refused_lines (place + 1)
 refused_lines place (refused line code ∷ outcomes) = refused_line place line code ++ refused_lines (place + 1) outcomes
 
 -- a line for each record from this place on
-abbrev pub record_lines : ℕ → List Outcome → List ℕ
-record_lines place [] = []
-record_lines place (accepted name mol ∷ outcomes) = ok_line place (length mol.atoms) (length mol.bonds) name ++ record_lines (place + 1) outcomes
-record_lines place (refused line code ∷ outcomes) = refused_line place line code ++ record_lines (place + 1) outcomes
+abbrev pub check_lines : ℕ → List Outcome → List ℕ
+check_lines place [] = []
+check_lines place (accepted name mol ∷ outcomes) = ok_line place (length mol.atoms) (length mol.bonds) name ++ check_lines (place + 1) outcomes
+check_lines place (refused line code ∷ outcomes) = refused_line place line code ++ check_lines (place + 1) outcomes
 
 -- the text of `check`
 abbrev pub check_text : List Outcome → List ℕ
-check_text outcomes = record_lines 1 outcomes ++ records_line (length outcomes) (length (accepted_records outcomes)) (refused_count outcomes)
+check_text outcomes = check_lines 1 outcomes ++ records_line (length outcomes) (length (accepted_records outcomes)) (refused_count outcomes)
 
 -- a line for each atom of a molecule
 abbrev pub codes_lines : Molecule → List ℕ

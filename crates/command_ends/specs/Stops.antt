@@ -4,7 +4,7 @@ use Rattle.outside.specs.Files.{IsLarge}
 use Rattle.outside.specs.Causes.{Rose, IsAbsent}
 use Rattle.command_ends.specs.Outcomes.{Why, not_a_command, out_of_memory, script_faulty, read_failed, file_absent, file_too_large}
 use Rattle.command_words.specs.Tasks.{Task}
-use Rattle.command_ends.specs.Outcomes.{Outcome}
+use Rattle.command_ends.specs.Outcomes.{CommandEnd}
 use Rattle.command_ends.specs.Ends.{IsWritten, MayComeOut, ShelfSeen, SinkSeen}
 
 -- between these moments a read of the file with this name may stop so
@@ -18,6 +18,6 @@ IsStopOfFile before now name (file_too_large named) = (named ≡ name) × IsLarg
 
 -- a task that reads no file ends with this status
 pub record EndsUnread (task : Task) (out out_now : SinkSeen) (status : ℕ) : Type 0 where
-  pub outcome : Outcome
+  pub outcome : CommandEnd
   pub may : (shelf shelf_now : ShelfSeen) → MayComeOut (Some task) shelf shelf_now outcome
   pub written : IsWritten out out_now outcome status

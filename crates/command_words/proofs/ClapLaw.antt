@@ -10,7 +10,7 @@ use Rattle.clap.specs.Simple.{App, HasMatchesOf, Shape, argument_words, entered,
 use Rattle.clap.specs.Faults.{built_fault, check_fault, defaults_fault, entered_fault, fault_of, level_fault, settle_fault, walk_fault}
 use Rattle.clap.specs.declared.parser.matches.ArgMatches.{ArgMatches}
 use Rattle.clap.proofs.WalkLemmas.{both, first_value-rows, one_text-rows, raw_values-rows}
-use Rattle.command_words.specs.Arguments.{Argument, Options, are_distinct, arguments, arguments_of, has_flag, has_no_stray, is_one_of, names, once_each, operand, operands, value_of, word_of, Word, stray, plain, with_value, switch, alone, flag, is_stray}
+use Rattle.command_words.specs.Arguments.{Argument, Options, are_distinct, arguments, arguments_of, has_flag, has_no_stray, is_one_of, names, once_each, operand, operands, option_value, kind_of_word, Word, stray, plain, with_value, switch, alone, flag, is_stray}
 use Rattle.command_words.specs.Arguments.{option as an_option}
 use Rattle.command_words.specs.ClapCommand.{SaysArguments, app_for}
 use Rattle.command_words.proofs.Texts.{Text, apart, turned}
@@ -26,7 +26,7 @@ module _ (valued flags : List Text) (no_name : is_one_of valued [] ≡ false) (n
   options = record { valued = valued; flags = flags }
 
   abbrev spelled : List Text → Option (List Argument)
-  spelled words = arguments_of (map (word_of options) words)
+  spelled words = arguments_of (map (kind_of_word options) words)
 
   abbrev faults : List Text → Kinds
   faults words = faults_of valued flags (built_shape (rules_for valued flags)) refl refl (at_word [] None idle) words
@@ -134,7 +134,7 @@ module _ (valued flags : List Text) (no_name : is_one_of valued [] ≡ false) (n
     used_row : (name : Text) → bytes_eq words_id name ≡ false → row_at name used_rows ≡ row_for valued flags no_words no_words_flag name said
     used_row name differ = row_law valued flags no_words no_words_flag said [] name differ clean
 
-    says_value : (name : Text) → is_one_of valued name ≡ true → is_one_of flags name ≡ false → first_value (found_of matches) name ≡ value_of name said
+    says_value : (name : Text) → is_one_of valued name ≡ true → is_one_of flags name ≡ false → first_value (found_of matches) name ≡ option_value name said
     says_value name is unlike =
         let differ : bytes_eq words_id name ≡ false = turned words_id name ∙ apart valued name words_id is no_words in
         first_value-rows (found_of matches) name ∙ ap (first_of name) same_rows
@@ -169,10 +169,10 @@ spells_none (alone name ∷ with_value other value ∷ words) e = refl
 spells_none (alone name ∷ switch other ∷ words) e = refl
 spells_none (alone name ∷ alone other ∷ words) e = refl
 
-each_word : (o : Options) (words : List Text) → has_no_stray o words ≡ list_all (λ word. not (is_stray word)) (map (word_of o) words)
+each_word : (o : Options) (words : List Text) → has_no_stray o words ≡ list_all (λ word. not (is_stray word)) (map (kind_of_word o) words)
 each_word o [] = refl
-each_word o (word ∷ words) = ap (λ (b : Bool). not (is_stray (word_of o word)) && b) (each_word o words)
+each_word o (word ∷ words) = ap (λ (b : Bool). not (is_stray (kind_of_word o word)) && b) (each_word o words)
 
 pub stray_none : (o : Options) (words : List Text) → has_no_stray o words ≡ false → arguments o words ≡ None
 unfolding arguments
-stray_none o words e = ap once_each (spells_none (map (word_of o) words) (sym (each_word o words) ∙ e))
+stray_none o words e = ap once_each (spells_none (map (kind_of_word o) words) (sym (each_word o words) ∙ e))

@@ -9,7 +9,7 @@ use Rattle.clap.specs.declared.builder.value_parser.Reading.{Reading}
 use Rattle.clap.specs.declared.parser.matches.ValueSource.{ValueSource}
 use Rattle.clap.specs.declared.parser.matches.ValueSource.TheVariants.{CommandLine, DefaultValue}
 use Rattle.clap.proofs.WalkLemmas.{both}
-use Rattle.command_words.specs.Arguments.{Argument, are_distinct, flag, has_flag, is_one_of, names, operand, operands, value_of}
+use Rattle.command_words.specs.Arguments.{Argument, are_distinct, flag, has_flag, is_one_of, names, operand, operands, option_value}
 use Rattle.command_words.specs.Arguments.{option as an_option}
 use Rattle.command_words.proofs.Texts.{Text, same, apart, itself, turned}
 use Rattle.command_words.proofs.ClapRules.{flag_rule, valued_rule, words_id, words_rule}
@@ -288,13 +288,13 @@ module _ (valued flags : List Text) (no_words : is_one_of valued words_id ≡ fa
 
   -- the value of an option
   pub value_for : (asked : Text) → is_one_of valued asked ≡ true → (arguments : List Argument) → list_all known arguments ≡ true
-      → option_and_then (λ r. slice_get r.values 0) (row_for asked arguments) ≡ value_of asked arguments
+      → option_and_then (λ r. slice_get r.values 0) (row_for asked arguments) ≡ option_value asked arguments
   value_for asked is [] all = refl
   value_for asked is (operand word ∷ arguments) all = value_for asked is arguments all
   value_for asked is (an_option name value ∷ arguments) all = go (bytes_eq name asked) (value_for asked is arguments (both (is_one_of valued name) _ all).1)
     where
-      go : (b : Bool) → option_and_then (λ r. slice_get r.values 0) (row_for asked arguments) ≡ value_of asked arguments
-          → option_and_then (λ r. slice_get r.values 0) (cond b (Some (value_row name value)) (row_for asked arguments)) ≡ cond b (Some value) (value_of asked arguments)
+      go : (b : Bool) → option_and_then (λ r. slice_get r.values 0) (row_for asked arguments) ≡ option_value asked arguments
+          → option_and_then (λ r. slice_get r.values 0) (cond b (Some (value_row name value)) (row_for asked arguments)) ≡ cond b (Some value) (option_value asked arguments)
       go true next = refl
       go false next = next
   value_for asked is (flag name ∷ arguments) all =

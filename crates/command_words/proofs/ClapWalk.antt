@@ -12,7 +12,7 @@ use Rattle.clap.proofs.WalkLemmas.{both}
 use Rattle.clap.specs.declared.error.kind.ErrorKind.TheVariants as kind
 use Rattle.clap.specs.Faults.{settle_fault, turn_fault, use_fault, walk_fault}
 use Rattle.command_words.proofs.ClapArguments.{fault_by, faults_with, is_known, rows_with, used_by}
-use Rattle.command_words.specs.Arguments.{Argument, Options, Word, after_equals, alone, arguments_of, before_equals, flag, has_no_stray, is_one_of, is_stray, operand, option_word, plain, stray, switch, with_value, word_of}
+use Rattle.command_words.specs.Arguments.{Argument, Options, Word, after_equals, alone, arguments_of, before_equals, flag, has_no_stray, is_one_of, is_stray, operand, option_word, plain, stray, switch, with_value, kind_of_word}
 use Rattle.command_words.specs.Arguments.{option as an_option}
 use Rattle.command_words.proofs.Texts.{Text, apart, itself, turned}
 use Rattle.command_words.proofs.ClapRules.{flag_rule, id_valued, long_flag, long_valued, rules_for, valued_rule, words_id, words_rule}
@@ -80,7 +80,7 @@ module _ (valued flags : List Text) (no_name : is_one_of valued [] ≡ false) (n
   sees_dashes : Sees (option_word options_are [] None) (45 ∷ 45 ∷ [])
   sees_dashes = rw (no_name, no_flag) tt
 
-  pub sees : (word : Text) → Sees (word_of options_are word) word
+  pub sees : (word : Text) → Sees (kind_of_word options_are word) word
   sees [] = tt
   sees (first ∷ []) = go (first == 45) refl
     where
@@ -280,7 +280,7 @@ module _ (valued flags : List Text) (s : Shape) (same_rules : s.rules ≡ rules_
     options = options_are valued flags no_name no_flag
 
     abbrev words_are : List Text → List Word
-    words_are words = map (word_of options) words
+    words_are words = map (kind_of_word options) words
 
     missing : (name : Text) (rows : List Row) (k : Kinds) → is_one_of valued name ≡ true → or_else (fault_before rows (Some (name, []))) k ≡ [] → ⊥
     missing name rows k is none =
@@ -355,9 +355,9 @@ module _ (valued flags : List Text) (s : Shape) (same_rules : s.rules ≡ rules_
       λ rows name is empty. missing name rows [] is (or_else_nil _ ∙ empty),
     )
     walk_laws (word ∷ words) none =
-        let parts = both (is_no_stray (word_of options word)) _ none in
+        let parts = both (is_no_stray (kind_of_word options word)) _ none in
         let rest = walk_laws words parts.1 in
         let seen = sees valued flags no_name no_flag word in (
-          λ rows p waiting is. step_idle word words (word_of options word) seen parts.0 rest.0 rest.1 rows p waiting is,
-          λ rows name is. step_waiting word words (word_of options word) seen parts.0 rest.0 rows name is,
+          λ rows p waiting is. step_idle word words (kind_of_word options word) seen parts.0 rest.0 rest.1 rows p waiting is,
+          λ rows name is. step_waiting word words (kind_of_word options word) seen parts.0 rest.0 rows name is,
         )

@@ -44,10 +44,10 @@ option_word options name None =
     else stray)
 
 -- a word that is empty, is `--`, or begins with `-` and is no option of the command, is a stray one
-abbrev pub word_of : Options → List ℕ → Word
-word_of options [] = stray
-word_of options (first ∷ []) = if first == 45 then stray else plain (first ∷ [])
-word_of options (first ∷ second ∷ rest) =
+abbrev pub kind_of_word : Options → List ℕ → Word
+kind_of_word options [] = stray
+kind_of_word options (first ∷ []) = if first == 45 then stray else plain (first ∷ [])
+kind_of_word options (first ∷ second ∷ rest) =
     if not (first == 45) then plain (first ∷ second ∷ rest)
     else (if second == 45 then option_word options (before_equals rest) (after_equals rest)
     else stray)
@@ -58,7 +58,7 @@ is_stray _ = false
 
 -- no word is a stray one
 abbrev pub has_no_stray : Options → List (List ℕ) → Bool
-has_no_stray options words = list_all (λ word. not (is_stray (word_of options word))) words
+has_no_stray options words = list_all (λ word. not (is_stray (kind_of_word options word))) words
 
 -- the arguments that the words spell, where they spell any: `--x v` and `--x=v` are the same
 abbrev pub arguments_of : List Word → Option (List Argument)
@@ -90,11 +90,11 @@ are_distinct [] = true
 are_distinct (name ∷ others) = not (is_one_of others name) && are_distinct others
 
 -- the value of an option, where it stands
-abbrev pub value_of : List ℕ → List Argument → Option (List ℕ)
-value_of asked [] = None
-value_of asked (operand word ∷ arguments) = value_of asked arguments
-value_of asked (option name value ∷ arguments) = if bytes_eq name asked then Some value else value_of asked arguments
-value_of asked (flag name ∷ arguments) = value_of asked arguments
+abbrev pub option_value : List ℕ → List Argument → Option (List ℕ)
+option_value asked [] = None
+option_value asked (operand word ∷ arguments) = option_value asked arguments
+option_value asked (option name value ∷ arguments) = if bytes_eq name asked then Some value else option_value asked arguments
+option_value asked (flag name ∷ arguments) = option_value asked arguments
 
 -- an option that takes no value stands
 abbrev pub has_flag : List ℕ → List Argument → Bool
@@ -109,4 +109,4 @@ once_each None = None
 once_each (Some arguments) = if are_distinct (names arguments) then Some arguments else None
 
 unfoldable pub arguments : Options → List (List ℕ) → Option (List Argument)
-arguments options words = once_each (arguments_of (map (word_of options) words))
+arguments options words = once_each (arguments_of (map (kind_of_word options) words))

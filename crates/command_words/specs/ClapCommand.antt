@@ -6,7 +6,7 @@ use Rattle.clap.specs.Walk.{Rule}
 use Rattle.clap.specs.Simple.{App, new_app, new_rule, on_top, with_rule}
 use Rattle.clap.specs.declared.builder.action.ArgAction.TheVariants.{Append, SetTrue}
 use Rattle.clap.specs.declared.parser.matches.ArgMatches.{ArgMatches}
-use Rattle.command_words.specs.Arguments.{Argument, Options, has_flag, is_one_of, operands, value_of}
+use Rattle.command_words.specs.Arguments.{Argument, Options, has_flag, is_one_of, operands, option_value}
 
 -- the options with these names
 abbrev pub options_of : List (Bor (List ℕ)) → List (Bor (List ℕ)) → Options
@@ -46,7 +46,7 @@ value_said matches name = first_value (found_of matches) name
 -- the matches say what the arguments do
 pub record SaysArguments (options : Options) (matches : ArgMatches) (arguments : List Argument) : Type 0 where
   pub words : words_said matches ≡ operands arguments
-  pub value : (name : List ℕ) → is_one_of options.valued name ≡ true → is_one_of options.flags name ≡ false → value_said matches name ≡ value_of name arguments
+  pub value : (name : List ℕ) → is_one_of options.valued name ≡ true → is_one_of options.flags name ≡ false → value_said matches name ≡ option_value name arguments
   pub flag : (name : List ℕ) → is_one_of options.valued name ≡ false → is_one_of options.flags name ≡ true
       → one_text (found_of matches) name ≡ Some (if has_flag name arguments then codes "true" else codes "false")
 

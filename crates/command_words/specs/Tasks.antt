@@ -5,8 +5,8 @@ use Rattle.std.specs.Str.{bytes_eq}
 use lib.Chars.{codes}
 use Rattle.htss_defs.specs.declared.shape.Shape.{Shape}
 use Rattle.htss_defs.specs.Shapes.{IsShape}
-use Rattle.script_text.specs.Grammar.{number_of}
-use Rattle.command_words.specs.Arguments.{Argument, Options, arguments, has_flag, operands, value_of}
+use Rattle.script_text.specs.Grammar.{number_below}
+use Rattle.command_words.specs.Arguments.{Argument, Options, arguments, has_flag, operands, option_value}
 use Rattle.command_words.specs.declared.command.Command.{Command}
 use Rattle.command_words.specs.declared.command.Command.TheVariants.{Audit, Check, Codes, Find, Make, Run}
 
@@ -28,7 +28,7 @@ within least most None = None
 within least most (Some n) = if nat_le least n && nat_le n most then Some n else None
 
 unfoldable pub number_in : ℕ → ℕ → List ℕ → Option ℕ
-number_in least most word = within least most (number_of 20 (2 ^ 64) word)
+number_in least most word = within least most (number_below 20 (2 ^ 64) word)
 
 -- the number that an option gives, or the one that stands for it where it is not given
 abbrev pub given_or : ℕ → ℕ → ℕ → Option (List ℕ) → Option ℕ
@@ -37,7 +37,7 @@ given_or default least most (Some word) = number_in least most word
 
 -- 0 to 2^64 - 1, or 10,000,000,000
 abbrev pub budget_given : List Argument → Option ℕ
-budget_given arguments = given_or 10000000000 0 (2 ^ 64 - 1) (value_of (codes "budget") arguments)
+budget_given arguments = given_or 10000000000 0 (2 ^ 64 - 1) (option_value (codes "budget") arguments)
 
 -- ---- the commands
 
@@ -109,7 +109,7 @@ run_with _ _ _ = None
 
 abbrev pub run_task : Option (List Argument) → Option Task
 run_task None = None
-run_task (Some arguments) = run_with (only (operands arguments)) (shape_said (λ name. value_of name arguments)) (budget_given arguments)
+run_task (Some arguments) = run_with (only (operands arguments)) (shape_said (λ name. option_value name arguments)) (budget_given arguments)
 
 abbrev pub audit_with : List (List ℕ) → Option Task
 audit_with (script ∷ report ∷ []) = Some (audit_of script report)

@@ -2,12 +2,12 @@
 ghost use Rattle.std.specs.Prelude.{◌≡◌, List, map, not, option_map, string_bytes};
 ghost use Rattle.std.specs.List.{list_all};
 ghost use Rattle.clap.specs.Lexer.{name_and_value, strip_byte};
-ghost use Rattle.command_words.specs.Arguments.{after_equals, before_equals, has_no_stray, is_one_of, is_stray, option_word, word_of};
+ghost use Rattle.command_words.specs.Arguments.{after_equals, before_equals, has_no_stray, is_one_of, is_stray, option_word, kind_of_word};
 ghost use Rattle.command_words.specs.ClapCommand.{options_of};
 
 /// Whether no word is empty, is `--`, or begins with `-` and is none of these options.
 pub(crate) fn has_no_stray(valued: &[&str], flags: &[&str], words: &[String]) -> bool
-    ensures { result ≡ list_all (λ word. not (is_stray (word_of (options_of valued.now flags.now)
+    ensures { result ≡ list_all (λ word. not (is_stray (kind_of_word (options_of valued.now flags.now)
         (string_bytes word)))) words.now }
 {
     words
@@ -16,7 +16,7 @@ pub(crate) fn has_no_stray(valued: &[&str], flags: &[&str], words: &[String]) ->
 }
 
 fn is_stray(valued: &[&str], flags: &[&str], word: &str) -> bool
-    ensures { result ≡ is_stray (word_of (options_of valued.now flags.now) word.now) }
+    ensures { result ≡ is_stray (kind_of_word (options_of valued.now flags.now) word.now) }
 {
     let Some(rest) = without_dash(word) else {
         return word.is_empty();

@@ -8,7 +8,7 @@ ghost use Rattle.htss_defs.specs.HitLists.{no_hits};
 ghost use Rattle.htss_defs.specs.Hits.{AreHits};
 ghost use Rattle.htss_defs.specs.Reply.{IsReply, found, over_budget};
 ghost use Rattle.reg_model.specs.Searches.{Counts};
-ghost use Rattle.reg_model.specs.Registries.{AreMarked, IsFull, IsPublished, IsWithdrawn, appended};
+ghost use Rattle.reg_model.specs.Registries.{AreMarked, IsFull, HasRecord, IsWithdrawn, appended};
 
 use crate::search::Search;
 use crate::survey::Survey;
@@ -102,10 +102,10 @@ impl PlainRegistry {
         ensures number { IfOk result (λ own. own ≡ length self.old.events + 1) }
         ensures event { OnOk result (self.new ≡ appended self.old (Withdraw caller number)) }
         ensures unknown { (front : ℕ) → result ≡ Err (PlainError.Unknown front)
-            ↔ ((IsPublished self.old.events number → ⊥) × (front ≡ length self.old.events)) }
+            ↔ ((HasRecord self.old.events number → ⊥) × (front ≡ length self.old.events)) }
         ensures gone { (at : ℕ) → result ≡ Err (PlainError.Gone at) ↔ Withdraws self.old.events at number }
         ensures full { (front : ℕ) → result ≡ Err (PlainError.LogFull front)
-            ↔ (IsPublished self.old.events number × (IsWithdrawn self.old.events number → ⊥)
+            ↔ (HasRecord self.old.events number × (IsWithdrawn self.old.events number → ⊥)
             × IsFull self.old × (front ≡ length self.old.events)) }
         ensures same { OnErr result (self.new ≡ self.old) }
     {
@@ -271,7 +271,7 @@ fn append(
 
 // Whether the event of this number publishes a record.
 fn is_publication(events: &[Event], number: u32) -> bool
-    ensures { IsTrue result ↔ IsPublished events.now number }
+    ensures { IsTrue result ↔ HasRecord events.now number }
 {
     if number == 0 {
         return false;

@@ -16,7 +16,7 @@ use Rattle.report_text.specs.declared.report.LoadLine.{LoadLine}
 use Rattle.report_text.specs.declared.report.SearchLine.{SearchLine}
 use Rattle.report_text.specs.declared.report.SearchLine.TheVariants as search
 use Rattle.report_rules.specs.Answers.{RecordAnswer, record_line, record_lines}
-use Rattle.report_rules.specs.Dealing.{Dealt, caller_of, dealt, dealt_from, loads_in, searches_in}
+use Rattle.report_rules.specs.Dealing.{Dealt, caller_in_turn, dealt, dealt_from, loads_in, searches_in}
 use Rattle.report_rules.specs.Faults.{IsBlockFault, IsInnerFault, IsLoadFault, IsRuleFault, IsUnnamed, Setting, block_length, line_after, names}
 use Rattle.report_rules.specs.Reports.{Done, done_lines}
 use Rattle.report_rules.specs.Rules.{Line}

@@ -16,7 +16,7 @@ use Rattle.report_rules.specs.Answers.{Answer, to_record, to_withdrawal, Fate, p
 use Rattle.report_rules.specs.Dealing as dealing
 use Rattle.report_rules.specs.Dealing.{Dealt}
 use Rattle.report_rules.specs.Faults.{IsAsLogged, Setting, answer_line, keeps, line_by}
-use Rattle.report_rules.specs.Rules.{IsNew, Line, number_of}
+use Rattle.report_rules.specs.Rules.{IsNew, Line, caller_number}
 use Rattle.report_audit.specs.declared.records.RecordRead.{RecordRead}
 use Rattle.report_audit.specs.declared.records.RecordRead.TheVariants.{Accepted, Refused}
 use Rattle.report_audit.specs.declared.so_far.SoFar.{SoFar}
@@ -28,12 +28,12 @@ use Rattle.report_audit.specs.Reads as reads
 use Rattle.report_audit.specs.Tallied.{IsNext}
 use Rattle.report_audit.proofs.TellEvents.{told_length}
 
-by_flag : (b : Bool) (n : ℕ) → number_of (if b then dealing.loader n else dealing.searcher n) ≡ n
+by_flag : (b : Bool) (n : ℕ) → caller_number (if b then dealing.loader n else dealing.searcher n) ≡ n
 by_flag true n = refl
 by_flag false n = refl
 
-number_is : (told : Told) (so_far : SoFar) (caller : code.Caller) (s : Setting) (earlier : List Line) (one : Dealt) → IsNextOf told so_far caller s earlier one → number_of one.caller ≡ caller.number
-number_is told so_far caller s earlier one next = ap number_of next.caller_is ∙ by_flag caller.loads caller.number
+number_is : (told : Told) (so_far : SoFar) (caller : code.Caller) (s : Setting) (earlier : List Line) (one : Dealt) → IsNextOf told so_far caller s earlier one → caller_number one.caller ≡ caller.number
+number_is told so_far caller s earlier one next = ap caller_number next.caller_is ∙ by_flag caller.loads caller.number
 
 pub is_next : (told : Told) (so_far : SoFar) (caller : code.Caller) (s : Setting) (earlier : List Line) (one : Dealt) (answer : Answer) → IsNextOf told so_far caller s earlier one → IsNext so_far.tally (caller_of caller) (line_by one answer)
 is_next told so_far caller s earlier one answer next = record { by = next.caller_is; in_group = next.group_is }

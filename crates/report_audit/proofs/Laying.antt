@@ -6,7 +6,7 @@ use Rattle.script_text.specs.declared.script.Job.{Job}
 use Rattle.script_text.specs.declared.script.Group.{Group}
 use Rattle.script_text.specs.declared.script.Order.{Order}
 use Rattle.script_text.specs.declared.script.Order.TheVariants.{Load, Withdraw, Search}
-use Rattle.report_rules.specs.Dealing.{Dealt, caller_of, dealt, dealt_from, dealt_group, loads_in, searches_in}
+use Rattle.report_rules.specs.Dealing.{Dealt, caller_in_turn, dealt, dealt_from, dealt_group, loads_in, searches_in}
 use Rattle.report_audit.specs.Callers.{loads_of, searches_of}
 
 pub one_each : (order : Order) → loads_in order + searches_in order ≡ 1
@@ -21,7 +21,7 @@ pub searches_push : (jobs : List Job) (job : Job) → searches_of (jobs ++ job �
 searches_push jobs job = omega (arith, sum_by-append (λ (j : Job). searches_in j.order) jobs (job ∷ []), sum_by-cons (λ (j : Job). searches_in j.order) job [])
 
 abbrev pub one_dealt : Shape → ℕ → ℕ → ℕ → Job → Dealt
-one_dealt shape group loads searches job = record { group = group; caller = caller_of shape loads searches job.order; job = job }
+one_dealt shape group loads searches job = record { group = group; caller = caller_in_turn shape loads searches job.order; job = job }
 
 pub dealt_push : (shape : Shape) (group loads searches : ℕ) (jobs : List Job) (job : Job)
     → dealt_from shape group loads searches (jobs ++ job ∷ []) ≡ dealt_from shape group loads searches jobs ++ one_dealt shape group (loads + loads_of jobs) (searches + searches_of jobs) job ∷ []

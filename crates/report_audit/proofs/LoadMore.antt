@@ -14,7 +14,7 @@ use Rattle.htss_defs.specs.declared.history.Event.TheVariants.{Publish, Withdraw
 use Rattle.reg_model.proofs.Events.{event-within}
 use Rattle.report_rules.specs.Dealing.{Caller, Dealt}
 use Rattle.report_rules.specs.Faults.{IsLoadFault, Setting, answer_line, keeps}
-use Rattle.report_rules.specs.Rules.{Line, number_of}
+use Rattle.report_rules.specs.Rules.{Line, caller_number}
 use Rattle.report_audit.specs.declared.records.RecordRead.{RecordRead}
 use Rattle.report_audit.specs.declared.so_far.SoFar.{SoFar}
 use Rattle.report_audit.specs.declared.tally.Caller as code
@@ -133,10 +133,10 @@ has_loaded_more told old new caller s earlier one outcomes lines count answer ha
 -- the event that a line names is one of the history
 pub own_within : (s : Setting) (earlier : List Line) (group : ℕ) (caller : Caller) (answer : Answer) → keeps s earlier (record { group = group; caller = caller; answer = answer }) → most (own_number answer) ≤ length s.history
 own_within s earlier group caller (to_record (taken one (published number))) is =
-    let within = event-within s.history number (Publish (number_of caller) one.name one.mol) is.rule.0 in
+    let within = event-within s.history number (Publish (caller_number caller) one.name one.mol) is.rule.0 in
     omega (arith, within, most_one number)
 own_within s earlier group caller (to_withdrawal number (At event)) is =
-    let within = event-within s.history event (Withdraw (number_of caller) number) is.rule.0 in
+    let within = event-within s.history event (Withdraw (caller_number caller) number) is.rule.0 in
     omega (arith, within, most_one event)
 own_within s earlier group caller _ is = omega (arith, most_none)
 

@@ -8,13 +8,13 @@ use Rattle.htss_defs.specs.declared.history.Event.TheVariants.{Publish, Withdraw
 use Rattle.htss_defs.specs.declared.shape.Shape.{Shape}
 use Rattle.htss_defs.specs.History.{IsLegal, Publishes, Withdraws}
 use Rattle.htss_defs.specs.Molecule.{Molecule}
-use Rattle.reg_model.specs.Registries.{AreWithdrawals, IsPublished, IsRegistry}
+use Rattle.reg_model.specs.Registries.{AreWithdrawals, HasRecord, IsRegistry}
 use Rattle.reg_model.proofs.Events.{event-cases, event-last, event-within, withdraws-more}
 use Rattle.reg_model.proofs.Legality.{registry-none, registry-publish, registry-withdraw}
 use Rattle.report_text.specs.declared.report.LogLine.{LogLine}
 use Rattle.report_text.specs.declared.report.LogLine.TheVariants as log
 use Rattle.report_rules.specs.Faults.{IsEventFault, molecule_named, told_event, told_from}
-use Rattle.report_rules.specs.Reports.{IsByLoader}
+use Rattle.report_rules.specs.Reports.{IsByItsLoader}
 use Rattle.report_audit.specs.Logs.{IsOpen, IsPublication, IsSoundLog, MayFollow, with_event}
 
 -- ---- the history that lines tell
@@ -66,10 +66,10 @@ get_take (x ∷ xs) (suc n) zero less = refl
 get_take (x ∷ xs) (suc n) (suc k) less = get_take xs n k (omega (arith, less))
 
 -- a line of a publication tells one
-pub published_told : (named : List (ℕ × Molecule)) (lines : List LogLine) (number : ℕ) → 1 ≤ number → IsPublication (slice_get lines (number - 1)) → IsPublished (told_from named 1 lines) number
+pub published_told : (named : List (ℕ × Molecule)) (lines : List LogLine) (number : ℕ) → 1 ≤ number → IsPublication (slice_get lines (number - 1)) → HasRecord (told_from named 1 lines) number
 published_told named lines number some is = go (slice_get lines (number - 1)) refl is
   where
-    go : (at : Option LogLine) → slice_get lines (number - 1) ≡ at → IsPublication at → IsPublished (told_from named 1 lines) number
+    go : (at : Option LogLine) → slice_get lines (number - 1) ≡ at → IsPublication at → HasRecord (told_from named 1 lines) number
     go None at is = absurd is
     go (Some (log.Withdraw loader target)) at is = absurd is
     go (Some (log.Publish loader atoms bonds name)) at is =
@@ -89,10 +89,10 @@ publication_line named lines number name mol p =
 -- the first i events are legal, and by loaders of the shape
 pub record AreSound (shape : Shape) (events : List LogLine) (i : ℕ) (withdrawals : List ℕ) (named : List (ℕ × Molecule)) : Type 0 where
   pub registry : IsRegistry (told_from named 1 (take i events)) withdrawals (length events)
-  pub loaders : All (IsByLoader shape) (told_from named 1 (take i events))
+  pub loaders : All (IsByItsLoader shape) (told_from named 1 (take i events))
 
 pub sound_none : (shape : Shape) (events : List LogLine) (named : List (ℕ × Molecule)) → AreSound shape events 0 [] named
-sound_none shape events named = record { registry = registry-none (length events); loaders = All-nil (IsByLoader shape) }
+sound_none shape events named = record { registry = registry-none (length events); loaders = All-nil (IsByItsLoader shape) }
 
 pub sound_count : (shape : Shape) (events : List LogLine) (i : ℕ) (withdrawals : List ℕ) → i ≤ length events → AreSound shape events i withdrawals [] → length withdrawals ≡ i
 sound_count shape events i withdrawals few s = s.registry.withdrawals_are.length_is ∙ length_told [] 1 (take i events) ∙ length-take-le i events few
@@ -104,7 +104,7 @@ one_more named events i event less is =
     ∙ told_push named 1 (take i events) event
     ∙ ap (λ (n : ℕ). told_from named 1 (take i events) ++ told_event named (1 + n) event ∷ []) long
 
-open_told : (named : List (ℕ × Molecule)) (events : List LogLine) (i : ℕ) (withdrawals : List ℕ) (number : ℕ) → length withdrawals ≡ i → IsOpen events withdrawals number → IsPublished (told_from named 1 (take i events)) number
+open_told : (named : List (ℕ × Molecule)) (events : List LogLine) (i : ℕ) (withdrawals : List ℕ) (number : ℕ) → length withdrawals ≡ i → IsOpen events withdrawals number → HasRecord (told_from named 1 (take i events)) number
 open_told named events i withdrawals number count is =
     published_told named (take i events) number is.some (subst IsPublication (sym (get_take events i (number - 1) (omega (arith, is.some, is.within, count)))) is.publishes)
 
@@ -117,8 +117,8 @@ sound_more shape events i withdrawals (log.Publish loader atoms bonds name) name
     record {
       registry = subst (λ (h : List Event). IsRegistry h (withdrawals ++ 0 ∷ []) (length events)) (sym (one_more named events i (log.Publish loader atoms bonds name) less is))
           (registry-publish es withdrawals (length events) loader name mol s.registry (λ full. absurd (omega (arith, less, long, full))));
-      loaders = subst (All (IsByLoader shape)) (sym (one_more named events i (log.Publish loader atoms bonds name) less is))
-          (All-append (IsByLoader shape) es (Publish loader name mol ∷ []) s.loaders (All-cons (IsByLoader shape) (Publish loader name mol) [] may (All-nil (IsByLoader shape))));
+      loaders = subst (All (IsByItsLoader shape)) (sym (one_more named events i (log.Publish loader atoms bonds name) less is))
+          (All-append (IsByItsLoader shape) es (Publish loader name mol ∷ []) s.loaders (All-cons (IsByItsLoader shape) (Publish loader name mol) [] may (All-nil (IsByItsLoader shape))));
     }
 sound_more shape events i withdrawals (log.Withdraw loader number) named less is s may =
     let es = told_from named 1 (take i events) in
@@ -129,8 +129,8 @@ sound_more shape events i withdrawals (log.Withdraw loader number) named less is
       registry = subst (λ (h : List Event). IsRegistry h (set (withdrawals ++ 0 ∷ []) (number - 1) (length withdrawals + 1)) (length events)) (sym (one_more named events i (log.Withdraw loader number) less is))
           (subst (λ (n : ℕ). IsRegistry (es ++ Withdraw loader number ∷ []) (set (withdrawals ++ 0 ∷ []) (number - 1) n) (length events)) same
           (registry-withdraw es withdrawals (length events) loader number s.registry (λ full. absurd (omega (arith, less, long, full))) (open_told named events i withdrawals number count may.2) may.2.stands));
-      loaders = subst (All (IsByLoader shape)) (sym (one_more named events i (log.Withdraw loader number) less is))
-          (All-append (IsByLoader shape) es (Withdraw loader number ∷ []) s.loaders (All-cons (IsByLoader shape) (Withdraw loader number) [] (may.0, may.1) (All-nil (IsByLoader shape))));
+      loaders = subst (All (IsByItsLoader shape)) (sym (one_more named events i (log.Withdraw loader number) less is))
+          (All-append (IsByItsLoader shape) es (Withdraw loader number ∷ []) s.loaders (All-cons (IsByItsLoader shape) (Withdraw loader number) [] (may.0, may.1) (All-nil (IsByItsLoader shape))));
     }
 
 pub sound_whole : (shape : Shape) (events : List LogLine) (i : ℕ) (withdrawals : List ℕ) (named : List (ℕ × Molecule)) → length events ≤ i → AreSound shape events i withdrawals named → IsSoundLog shape events withdrawals named
@@ -139,14 +139,14 @@ sound_whole shape events i withdrawals named all s =
     let first : told_from named 1 (take i events) ≡ h = ap (told_from named 1) (take_all i events all) in
     let whole : take (length events) h ≡ h = take_all (length events) h (omega (arith, length_told named 1 events)) in
     record {
-      legal = (subst IsLegal (first ∙ sym whole) s.registry.legal, subst (All (IsByLoader shape)) (first ∙ sym whole) s.loaders);
+      legal = (subst IsLegal (first ∙ sym whole) s.registry.legal, subst (All (IsByItsLoader shape)) (first ∙ sym whole) s.loaders);
       are = subst (λ (l : List Event). AreWithdrawals l withdrawals) first s.registry.withdrawals_are;
     }
 
 -- ---- an event that breaks the log
 
-last_by : (shape : Shape) (es : List Event) (e : Event) → All (IsByLoader shape) (es ++ e ∷ []) → IsByLoader shape e
-last_by shape es e all = subst (IsByLoader shape) (get_or_push es e e (length es) refl) (all (length es) e (omega (arith, length_push es e)))
+last_by : (shape : Shape) (es : List Event) (e : Event) → All (IsByItsLoader shape) (es ++ e ∷ []) → IsByItsLoader shape e
+last_by shape es e all = subst (IsByItsLoader shape) (get_or_push es e e (length es) refl) (all (length es) e (omega (arith, length_push es e)))
 
 -- a record that the next event withdraws is open
 is_open : (events : List LogLine) (i : ℕ) (withdrawals : List ℕ) (loader number : ℕ) (named : List (ℕ × Molecule)) → length withdrawals ≡ i → length (told_from named 1 (take i events)) ≡ i
@@ -180,7 +180,7 @@ is_open events i withdrawals loader number named count long are legal =
 
 -- an event that comes next in a legal log by loaders of the shape may follow
 may_follow : (shape : Shape) (events : List LogLine) (i : ℕ) (withdrawals : List ℕ) (event : LogLine) (named : List (ℕ × Molecule)) → i < length events
-    → AreSound shape events i withdrawals named → IsLegal (told_from named 1 (take i events) ++ told_event named (1 + i) event ∷ []) → IsByLoader shape (told_event named (1 + i) event) → MayFollow shape events withdrawals event
+    → AreSound shape events i withdrawals named → IsLegal (told_from named 1 (take i events) ++ told_event named (1 + i) event ∷ []) → IsByItsLoader shape (told_event named (1 + i) event) → MayFollow shape events withdrawals event
 may_follow shape events i withdrawals (log.Publish loader atoms bonds name) named less s legal by = by
 may_follow shape events i withdrawals (log.Withdraw loader number) named less s legal by =
     let long : length (told_from named 1 (take i events)) ≡ i = length_told named 1 (take i events) ∙ length-take-le i events (omega (arith, less)) in
@@ -196,7 +196,7 @@ broken shape events i withdrawals event named less is s not =
     record {
       some = omega arith;
       within = omega (arith, less, length_told named 1 events);
-      before = (subst IsLegal before s.registry.legal, subst (All (IsByLoader shape)) before s.loaders);
+      before = (subst IsLegal before s.registry.legal, subst (All (IsByItsLoader shape)) before s.loaders);
       here = λ up.
-          not (may_follow shape events i withdrawals event named less s (subst IsLegal now up.0) (last_by shape es (told_event named (1 + i) event) (subst (All (IsByLoader shape)) now up.1)));
+          not (may_follow shape events i withdrawals event named less s (subst IsLegal now up.0) (last_by shape es (told_event named (1 + i) event) (subst (All (IsByItsLoader shape)) now up.1)));
     }

@@ -6,7 +6,7 @@ use Rattle.htss_defs.specs.declared.history.Event.{Event}
 use Rattle.htss_defs.specs.declared.history.Event.TheVariants.{Publish, Withdraw}
 use Rattle.htss_defs.specs.History.{HasEvent, Publishes, Withdraws}
 use Rattle.htss_defs.specs.Molecule.{Molecule}
-use Rattle.reg_model.specs.Registries.{IsPublished, IsWithdrawn}
+use Rattle.reg_model.specs.Registries.{HasRecord, IsWithdrawn}
 use Rattle.reg_model.proofs.Events.{event-first, event-of_first, event-within}
 use Rattle.report_text.specs.declared.report.LogLine.{LogLine}
 use Rattle.report_text.specs.declared.report.LogLine.TheVariants as log
@@ -117,7 +117,7 @@ other_end t h number target line tells at not w =
 -- ---- the first events
 
 pub shown : (t : Told) (h : List Event) (front number : ℕ) (line : LogLine) → Tells t h → front ≤ length t.lines.now → 1 ≤ number → number ≤ front → slice_get t.lines.now (number - 1) ≡ Some line → IsPublication (Some line)
-    → IsPublished (take front h) number
+    → HasRecord (take front h) number
 shown t h front number (log.Withdraw by to) tells few some within at is = absurd is
 shown t h front number (log.Publish by atoms bonds name) tells few some within at is =
     let mol = molecule_named tells.named number in
@@ -125,7 +125,7 @@ shown t h front number (log.Publish by atoms bonds name) tells few some within a
     (name, mol, record { caller = by; event = event-first h front number (Publish by name mol) (omega (arith, few, long)) (told_at t h tells number (log.Publish by atoms bonds name) some at) within })
 
 pub not_shown : (t : Told) (h : List Event) (front number : ℕ) (line : LogLine) → Tells t h → front ≤ length t.lines.now → slice_get t.lines.now (number - 1) ≡ Some line → (IsPublication (Some line) → ⊥)
-    → IsPublished (take front h) number → ⊥
+    → HasRecord (take front h) number → ⊥
 not_shown t h front number line tells few at not (name, mol, p) =
     let long = told_length t h tells in
     let (has, within) = event-of_first h front number (Publish p.caller name mol) (omega (arith, few, long)) p.event in
@@ -136,7 +136,7 @@ not_shown t h front number line tells few at not (name, mol, p) =
     go (log.Publish by atoms bonds text) is same = not (subst (λ (l : LogLine). IsPublication (Some l)) (sym same) tt)
     go (log.Withdraw by to) is same = absurd cc
 
-pub not_within : (t : Told) (h : List Event) (front number : ℕ) → Tells t h → front ≤ length t.lines.now → (1 ≤ number → number ≤ front → ⊥) → IsPublished (take front h) number → ⊥
+pub not_within : (t : Told) (h : List Event) (front number : ℕ) → Tells t h → front ≤ length t.lines.now → (1 ≤ number → number ≤ front → ⊥) → HasRecord (take front h) number → ⊥
 not_within t h front number tells few not (name, mol, p) =
     let long = told_length t h tells in
     let (has, within) = event-of_first h front number (Publish p.caller name mol) (omega (arith, few, long)) p.event in

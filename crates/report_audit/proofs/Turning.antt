@@ -12,7 +12,7 @@ use Rattle.script_text.specs.declared.script.Group.{Group}
 use Rattle.script_text.specs.declared.script.Job.{Job}
 use Rattle.script_text.specs.FilesByLine.{bytes_at}
 use Rattle.report_text.specs.declared.report.Block.{Block}
-use Rattle.report_rules.specs.Dealing.{Dealt, caller_of, dealt, dealt_from, loads_in, searches_in}
+use Rattle.report_rules.specs.Dealing.{Dealt, caller_in_turn, dealt, dealt_from, loads_in, searches_in}
 use Rattle.report_rules.specs.Faults.{AreKept, IsBlockFault, Setting}
 use Rattle.report_rules.specs.Reports.{Done, IsByItsFile, done_lines}
 use Rattle.report_rules.specs.Rules.{Line}
@@ -113,7 +113,7 @@ zip_length R (x ∷ xs) (y ∷ ys) all = ap suc (zip_length R xs ys all.1)
 pub turn_at : (told : Told) (turns : Turns) (script : List Group) (s : Setting) (index : ℕ) (laid : LaidJob) (read : JobRead) (old new : SoFar) (caller : code.Caller) (blocks : List Block) → AreTurnsOf told turns script s
     → slice_get turns.jobs.now index ≡ Some laid → slice_get turns.reads.now index ≡ Some read → (has : HasKept told old s (dealt s.shape 1 script) blocks index)
     → ((lines : List Line) → IsSoFar lines old → IsSoFar lines new) → (old.tally.group ≤ laid.group → new.tally.group ≡ laid.group) → length new.taken.items ≡ length old.taken.items
-    → callers.caller_of caller ≡ caller_of turns.shape laid.loads laid.searches laid.job.now.order
+    → callers.caller_of caller ≡ caller_in_turn turns.shape laid.loads laid.searches laid.job.now.order
     → IsTurnOf told new caller read s (flat_map done_lines has.done) (callers.dealt_by s.shape laid)
 turn_at told turns script s index laid read old new caller blocks are at read_at has lines group long caller_is = record {
   read_is = zip_at (IsReadOf s.files) turns.jobs.now turns.reads.now index laid read are.reads_are at read_at;
@@ -122,7 +122,7 @@ turn_at told turns script s index laid read old new caller blocks are at read_at
     tells = are.tells;
     lines = lines (flat_map done_lines has.done) has.lines;
     long = long ∙ has.long;
-    caller_is = ap (λ (k : Shape). caller_of k laid.loads laid.searches laid.job.now.order) are.shape_is ∙ sym caller_is;
+    caller_is = ap (λ (k : Shape). caller_in_turn k laid.loads laid.searches laid.job.now.order) are.shape_is ∙ sym caller_is;
     group_is = sym (group (has.group_is (callers.dealt_by s.shape laid) (job_at told turns script s index laid are at)));
   };
 }

@@ -11,7 +11,7 @@ caller_of caller = if caller.loads then dealing.loader caller.number else dealin
 
 -- the job as a board of this shape deals it
 abbrev pub dealt_by : Shape → LaidJob → dealing.Dealt
-dealt_by shape laid = record { group = laid.group; caller = dealing.caller_of shape laid.loads laid.searches laid.job.now.order; job = laid.job.now }
+dealt_by shape laid = record { group = laid.group; caller = dealing.caller_in_turn shape laid.loads laid.searches laid.job.now.order; job = laid.job.now }
 
 -- how many loads and withdrawals, and how many searches, the jobs are
 abbrev pub loads_of : List Job → ℕ

@@ -4,7 +4,7 @@ ghost use Rattle.htss_defs.specs.declared.history.Event.{Event};
 ghost use Rattle.htss_defs.specs.declared.history.Event.TheVariants.{Publish, Withdraw};
 ghost use Rattle.htss_defs.specs.History.{HasEvent, Withdraws};
 ghost use Rattle.htss_defs.specs.Molecule.{Molecule};
-ghost use Rattle.reg_model.specs.Registries.{IsPublished, IsWithdrawn};
+ghost use Rattle.reg_model.specs.Registries.{HasRecord, IsWithdrawn};
 ghost use Rattle.report_text.specs.declared.report.LogLine.TheVariants as log;
 ghost use Rattle.report_rules.specs.Faults.{IsAsLogged, molecule_named};
 ghost use Rattle.report_audit.specs.Logs.{IsEndOf, IsPublication};
@@ -179,8 +179,8 @@ fn is_end_of(line: &LogLine, target: u32) -> bool
 pub fn is_published(told: &Told<'_>, front: u32, number: u32) -> bool
     requires { front ≤ length told.now.lines.now }
     ensures within { result ≡ true → (1 ≤ number) × (number ≤ front) }
-    ensures is { result ≡ true → (history : List Event) → Tells told.now history → IsPublished (take front history) number }
-    ensures other { result ≡ false → (history : List Event) → Tells told.now history → IsPublished (take front history) number → ⊥ }
+    ensures is { result ≡ true → (history : List Event) → Tells told.now history → HasRecord (take front history) number }
+    ensures other { result ≡ false → (history : List Event) → Tells told.now history → HasRecord (take front history) number → ⊥ }
 {
     if number == 0 {
         return false;

@@ -79,7 +79,7 @@ fn searches_in(order: &Order) -> usize
 /// The caller that the job is dealt to.
 pub fn caller_for(shape: Shape, laid: LaidJob<'_>) -> Caller
     requires { IsShape shape }
-    ensures is { caller_of result ≡ dealing.caller_of shape laid.entry.loads laid.entry.searches laid.entry.job.now.order }
+    ensures is { caller_of result ≡ dealing.caller_in_turn shape laid.entry.loads laid.entry.searches laid.entry.job.now.order }
     ensures within { IsCaller (caller_of result) }
 {
     match &laid.job.order {

@@ -21,7 +21,7 @@ use Rattle.report_text.specs.declared.report.SearchLine.TheVariants.{Hits, OverB
 use Rattle.report_rules.specs.Answers.{RecordAnswer, outcome_of, record_line, record_lines}
 use Rattle.report_rules.specs.Dealing.{Dealt, dealt}
 use Rattle.report_rules.specs.Rules.{Line}
-use Rattle.report_rules.specs.Reports.{Done, done_block, done_lines, IsByLoader}
+use Rattle.report_rules.specs.Reports.{Done, done_block, done_lines, IsByItsLoader}
 use Rattle.report_rules.specs.Faults.{namings, IsNamedIn, AreNamed, told_from, IsTold, Setting, own_budget, Asks, IsLoadFault, IsHitFault, IsInnerFault, IsBlockFault}
 use Rattle.report_rules.specs.Faults.{AreKept, names, IsRuleFault, IsUnnamed, IsLogUpTo, IsEventFault, IsLaterFault, IsLogFault, IsFirstFault, setting_of, line_after, line_of_event}
 use Rattle.report_rules.proofs.OneDone.{first_done}
@@ -220,7 +220,7 @@ one_unnamed s jobs blocks x y a b = elim (cases_lt x y) [
 legal_before : (report : Report) (h : List Event) (n m : ℕ) → n ≤ m → IsLogUpTo report.shape h m → IsLogUpTo report.shape h n
 legal_before report h n m few (legal, by) =
     let same : take n (take m h) ≡ take n h = take_take n m h few in
-    (subst IsLegal same (legal_first (take m h) n legal), subst (All (IsByLoader report.shape)) same (All-take (IsByLoader report.shape) n (take m h) by))
+    (subst IsLegal same (legal_first (take m h) n legal), subst (All (IsByItsLoader report.shape)) same (All-take (IsByItsLoader report.shape) n (take m h) by))
 
 one_event : (report : Report) (h : List Event) (x y : ℕ) → IsEventFault report.shape h x → IsEventFault report.shape h y → x ≡ y
 one_event report h x y a b = elim (cases_lt x y) [

@@ -22,7 +22,7 @@ use Rattle.report_text.specs.declared.report.WithdrawLine.TheVariants.{At, Unkno
 use Rattle.report_rules.specs.Answers.{published, no_room, no_page, chain_full, log_full, RecordAnswer, not_accepted, taken, JobAnswer, loaded, withdrew, searched}
 use Rattle.report_rules.specs.Answers.{SearchAnswer, not_read, hits_at, over_at, record_line, record_lines, outcome_of, own_number, to_record, to_withdrawal, to_search}
 use Rattle.report_rules.specs.Dealing.{Dealt}
-use Rattle.report_rules.specs.Rules.{Line, KeepsRule, number_of}
+use Rattle.report_rules.specs.Rules.{Line, KeepsRule, caller_number}
 use Rattle.report_rules.specs.Reports.{Done, done_block, done_lines, log_line, IsByItsFile, IsAnswerTo}
 use Rattle.report_rules.specs.Faults.{naming, namings, first_molecule, molecule_named, told_from, IsBlockFor, IsNamedIn, AreNamed}
 
@@ -138,7 +138,7 @@ placed one answer = record { group = one.group; caller = one.caller; answer = to
 
 true_one : (shape : Shape) (history : List Event) (one : Dealt) (answer : RecordAnswer) → KeepsSomewhere shape history (placed one answer) → AreTrueNamings history (own_naming answer)
 true_one shape history one (not_accepted line code) keeps = tt
-true_one shape history one (taken mol (published number)) (earlier, keeps) = ((number_of one.caller, mol.name, keeps.0), tt)
+true_one shape history one (taken mol (published number)) (earlier, keeps) = ((caller_number one.caller, mol.name, keeps.0), tt)
 true_one shape history one (taken mol (no_room left need)) keeps = tt
 true_one shape history one (taken mol no_page) keeps = tt
 true_one shape history one (taken mol (chain_full pages)) keeps = tt
@@ -222,7 +222,7 @@ named_withdrawal : (shape : Shape) (history : List Event) (one : Dealt) (asked n
     → Contains (own_number (to_withdrawal asked answer)) number → ⊥
 named_withdrawal shape history one asked number (At event) event_is (earlier, keeps) has =
     let same = contains_one event number has in
-    no_both history number (number_of one.caller) asked event_is (subst (λ n. HasEvent history n (Withdraw (number_of one.caller) asked)) (sym same) keeps.0)
+    no_both history number (caller_number one.caller) asked event_is (subst (λ n. HasEvent history n (Withdraw (caller_number one.caller) asked)) (sym same) keeps.0)
 named_withdrawal shape history one asked number (Unknown front) event_is keeps has = contains_none number has
 named_withdrawal shape history one asked number (Gone at) event_is keeps has = contains_none number has
 named_withdrawal shape history one asked number (NoEntry front) event_is keeps has = contains_none number has

@@ -29,7 +29,7 @@ use Rattle.htss_defs.specs.History.{IsLegal, Withdraws}
 use Rattle.script_text.specs.declared.script.Group.{Group}
 use Rattle.report_text.specs.declared.report.Report.{Report}
 use Rattle.report_rules.specs.Dealing.{dealt}
-use Rattle.report_rules.specs.Reports.{IsReport, IsByLoader}
+use Rattle.report_rules.specs.Reports.{IsReport, IsByItsLoader}
 use Rattle.report_rules.specs.Faults.{IsFirstFault, AreNamed, told_from, IsLogUpTo, IsRuleFault, IsUnnamed, IsLaterFault, setting_of, names}
 use Rattle.report_rules.proofs.OneHistory.{one_history}
 use Rattle.report_rules.proofs.OneDone.{first_done}
@@ -358,7 +358,7 @@ no_fault query hits script files report line is fault =
       | inl shape ↦ shape.1 is.in_limits
       | inr (inl long) ↦ absurd (omega (arith, long.2, is.within, ap length is.log, length-map h log_line))
       | inr (inr (inl broken)) ↦ broken.fault.here (subst (λ l. IsLogUpTo report.shape l broken.number) (sym same)
-          (legal_first h broken.number is.legal, All-take (IsByLoader report.shape) broken.number h is.loaders))
+          (legal_first h broken.number is.legal, All-take (IsByItsLoader report.shape) broken.number h is.loaders))
       | inr (inr (inr later)) ↦ no_later query hits script files report line is (subst (λ l. IsLaterFault script files report l line) same later)
     ]
   where

@@ -16,7 +16,7 @@ use Rattle.report_text.specs.declared.report.LogLine.{LogLine}
 use Rattle.report_rules.specs.Answers.{own_number}
 use Rattle.report_rules.specs.Dealing.{dealt}
 use Rattle.report_rules.specs.Rules.{Line}
-use Rattle.report_rules.specs.Reports.{Done, done_lines, log_line, IsByLoader, IsReport}
+use Rattle.report_rules.specs.Reports.{Done, done_lines, log_line, IsByItsLoader, IsReport}
 use Rattle.report_rules.specs.Faults.{IsTold, IsLogUpTo, AreKept, IsAsLogged, names, setting_of, told_from}
 
 -- ---- a line that names an event
@@ -73,7 +73,7 @@ is_report script files report history done grammar told shape short legal kept j
   history = history;
   within = omega (arith, long, short);
   legal = subst IsLegal (all_taken history) legal.0;
-  loaders = subst (All (IsByLoader report.shape)) (all_taken history) legal.1;
+  loaders = subst (All (IsByItsLoader report.shape)) (all_taken history) legal.1;
   log = sym log_is;
   told = record {
     done = done;

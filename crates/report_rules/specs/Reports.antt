@@ -28,9 +28,9 @@ log_line (Publish caller name mol) = log.Publish caller (length mol.atoms) (leng
 log_line (Withdraw caller number) = log.Withdraw caller number
 
 -- the loader that an event names is one of the shape's
-abbrev pub IsByLoader : Shape → Event → Type 0
-IsByLoader shape (Publish caller name mol) = (1 ≤ caller) × (caller ≤ shape.loaders)
-IsByLoader shape (Withdraw caller number) = (1 ≤ caller) × (caller ≤ shape.loaders)
+abbrev pub IsByItsLoader : Shape → Event → Type 0
+IsByItsLoader shape (Publish caller name mol) = (1 ≤ caller) × (caller ≤ shape.loaders)
+IsByItsLoader shape (Withdraw caller number) = (1 ≤ caller) × (caller ≤ shape.loaders)
 
 -- a job that is done, and what it answers
 pub record Done : Type 0 where
@@ -83,6 +83,6 @@ pub record IsReport (script : List Group) (files : List (ℕ × List ℕ)) (shap
   pub history : List Event
   pub within : length history ≤ shape.log
   pub legal : IsLegal history
-  pub loaders : All (IsByLoader shape) history
+  pub loaders : All (IsByItsLoader shape) history
   pub log : report.events ≡ map log_line history
   pub told : IsToldBy script files shape budget history report.blocks

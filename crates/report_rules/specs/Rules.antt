@@ -6,7 +6,7 @@ use Rattle.htss_defs.specs.declared.record.NamedMol.{NamedMol}
 use Rattle.htss_defs.specs.declared.shape.Shape.{Shape}
 use Rattle.htss_defs.specs.History.{HasEvent, Withdraws}
 use Rattle.htss_defs.specs.Reply.{IsReply, found, over_budget}
-use Rattle.reg_model.specs.Registries.{IsPublished, IsWithdrawn}
+use Rattle.reg_model.specs.Registries.{HasRecord, IsWithdrawn}
 use Rattle.reg_model.specs.Searches.{Counts}
 use Rattle.report_text.specs.declared.report.WithdrawLine.{WithdrawLine}
 use Rattle.report_text.specs.declared.report.WithdrawLine.TheVariants.{At, Unknown, Gone, LogFull as NoEntry}
@@ -21,9 +21,9 @@ pub record Line : Type 0 where
   pub caller : Caller
   pub answer : Answer
 
-abbrev pub number_of : Caller → ℕ
-number_of (loader number) = number
-number_of (searcher number) = number
+abbrev pub caller_number : Caller → ℕ
+caller_number (loader number) = number
+caller_number (searcher number) = number
 
 -- the event numbers and the fronts that a line carries
 abbrev pub marks : Line → List ℕ
@@ -79,7 +79,7 @@ IsRoomLeft shape earlier line left = left + sum_by (used_by line.caller) earlier
 
 abbrev pub KeepsFate : Shape → List Event → List Line → Line → NamedMol → Fate → Type 0
 KeepsFate shape history earlier line one (published number) =
-    HasEvent history number (Publish (number_of line.caller) one.name one.mol) × IsNew earlier line number
+    HasEvent history number (Publish (caller_number line.caller) one.name one.mol) × IsNew earlier line number
 KeepsFate shape history earlier line one (no_room left need) =
     (need ≡ block_words one) × (left < need) × IsRoomLeft shape earlier line left
 KeepsFate shape history earlier line one no_page = Unit {0}
@@ -89,12 +89,12 @@ KeepsFate shape history earlier line one (log_full front) =
 
 abbrev pub KeepsWithdrawal : Shape → List Event → List Line → Line → ℕ → WithdrawLine → Type 0
 KeepsWithdrawal shape history earlier line number (At event) =
-    HasEvent history event (Withdraw (number_of line.caller) number) × IsNew earlier line event
+    HasEvent history event (Withdraw (caller_number line.caller) number) × IsNew earlier line event
 KeepsWithdrawal shape history earlier line number (Unknown front) =
-    (front ≤ length history) × (IsPublished (take front history) number → ⊥) × IsRefusingFront earlier line front
+    (front ≤ length history) × (HasRecord (take front history) number → ⊥) × IsRefusingFront earlier line front
 KeepsWithdrawal shape history earlier line number (Gone at) = Withdraws history at number
 KeepsWithdrawal shape history earlier line number (NoEntry front) =
-    (front ≡ shape.log) × (front ≤ length history) × IsPublished (take front history) number
+    (front ≡ shape.log) × (front ≤ length history) × HasRecord (take front history) number
     × (IsWithdrawn (take front history) number → ⊥) × IsRefusingFront earlier line front
 
 abbrev pub KeepsSearch : List Event → List Line → Line → SearchAnswer → Type 0

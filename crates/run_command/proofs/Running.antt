@@ -22,7 +22,7 @@ use Rattle.report_text.specs.ReportText.{block_text, header_text, log_text, repo
 use Rattle.report_text.specs.Typed.{IsTypedBlock}
 use Rattle.report_text.specs.Values.{IsLogLine, IsU64}
 use Rattle.report_rules.specs.Answers.{own_number}
-use Rattle.report_rules.specs.Reports.{Done, IsByLoader, IsToldBy, done_block, done_lines, log_line}
+use Rattle.report_rules.specs.Reports.{Done, IsByItsLoader, IsToldBy, done_block, done_lines, log_line}
 use Rattle.report_rules.specs.Rules.{KeepsRule, Line}
 use Rattle.report_rules.proofs.InGrammar.{AreShort, in_grammar}
 use Rattle.board_core.specs.declared.account.Account.{Account}
@@ -249,13 +249,13 @@ unfolding report_text
 report_is shape budget blocks events = refl
 
 -- the board's word for an event by a loader, and the report's
-by_loader : (shape : Shape) (one : Event) → log.IsByLoader shape one → IsByLoader shape one
+by_loader : (shape : Shape) (one : Event) → log.IsByLoader shape one → IsByItsLoader shape one
 by_loader shape (Publish caller name mol) by = by
 by_loader shape (event.Withdraw caller number) by = by
 
-all_by_loaders : (shape : Shape) (history : List Event) → Each (log.IsByLoader shape) history → All (IsByLoader shape) history
-all_by_loaders shape [] each = All-nil (IsByLoader shape)
-all_by_loaders shape (one ∷ rest) each = All-cons (IsByLoader shape) one rest (by_loader shape one (each 0 one refl)) (all_by_loaders shape rest (λ j. each (suc j)))
+all_by_loaders : (shape : Shape) (history : List Event) → Each (log.IsByLoader shape) history → All (IsByItsLoader shape) history
+all_by_loaders shape [] each = All-nil (IsByItsLoader shape)
+all_by_loaders shape (one ∷ rest) each = All-cons (IsByItsLoader shape) one rest (by_loader shape one (each 0 one refl)) (all_by_loaders shape rest (λ j. each (suc j)))
 
 -- a board that was closed, whose callers had these accounts
 pub record IsClosedWith (shape : Shape) (accounts : List Account) (last : Closing) : Type 0 where
@@ -304,7 +304,7 @@ run_is told script groups shape budget accounts text text_now last limits closed
     let lines : All IsLogLine (map log_line last.history) =
     All-map IsLogLine log_line last.history
     (subst (All (λ e. IsLogLine (log_line e))) closed.end.shows
-    (log_lines shape words limits (known_end shape words accounts limits end) (subst (All (IsByLoader shape)) (sym closed.end.shows) by))) in
+    (log_lines shape words limits (known_end shape words accounts limits end) (subst (All (IsByItsLoader shape)) (sym closed.end.shows) by))) in
     record {
       run = record {
         groups = groups;

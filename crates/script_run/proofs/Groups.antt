@@ -13,7 +13,7 @@ use Rattle.script_text.specs.declared.script.Job.{Job}
 use Rattle.script_text.specs.declared.script.Order.{Order}
 use Rattle.script_text.specs.declared.script.Order.TheVariants.{Load, Withdraw, Search}
 use Rattle.report_text.specs.declared.report.Block.{Block}
-use Rattle.report_rules.specs.Dealing.{Dealt, caller_of, dealt_from, dealt_group, loads_in, searches_in}
+use Rattle.report_rules.specs.Dealing.{Dealt, caller_in_turn, dealt_from, dealt_group, loads_in, searches_in}
 use Rattle.report_rules.specs.Reports.{Done, IsByItsFile, done_block}
 use Rattle.board.specs.Seated.{Place, Seated}
 use Rattle.board_core.specs.declared.account.Account.{Account}
@@ -209,7 +209,7 @@ module _ {G : Type 0} where
       )
 
 -- each job is dealt to one of the callers
-seat_for : (k : Shape) (n loads searches : ℕ) (order : Order) → IsShape k → n ≡ k.loaders + k.searchers → IsSeat k n (caller_of k loads searches order)
+seat_for : (k : Shape) (n loads searches : ℕ) (order : Order) → IsShape k → n ≡ k.loaders + k.searchers → IsSeat k n (caller_in_turn k loads searches order)
 seat_for k n loads searches (Load file) shape count = loader_seat k (loads % k.loaders) n (mod_below loads k.loaders (shape Loaders).0) (omega arith)
 seat_for k n loads searches (Withdraw number) shape count = loader_seat k (loads % k.loaders) n (mod_below loads k.loaders (shape Loaders).0) (omega arith)
 seat_for k n loads searches (Search file budget) shape count = searcher_seat k (searches % k.searchers) n (mod_below searches k.searchers (shape Searchers).0) (omega arith)
@@ -217,7 +217,7 @@ seat_for k n loads searches (Search file budget) shape count = searcher_seat k (
 seats_for : (k : Shape) (n number loads searches : ℕ) (jobs : List Job) → IsShape k → n ≡ k.loaders + k.searchers → All (λ (j : Dealt). IsSeat k n j.caller) (dealt_from k number loads searches jobs)
 seats_for k n number loads searches [] shape count = All-nil (λ (j : Dealt). IsSeat k n j.caller)
 seats_for k n number loads searches (job ∷ jobs) shape count =
-    All-cons (λ (j : Dealt). IsSeat k n j.caller) (record { group = number; caller = caller_of k loads searches job.order; job = job })
+    All-cons (λ (j : Dealt). IsSeat k n j.caller) (record { group = number; caller = caller_in_turn k loads searches job.order; job = job })
     (dealt_from k number (loads + loads_in job.order) (searches + searches_in job.order) jobs) (seat_for k n loads searches job.order shape count)
     (seats_for k n number (loads + loads_in job.order) (searches + searches_in job.order) jobs shape count)
 

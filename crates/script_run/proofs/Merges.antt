@@ -7,7 +7,7 @@ use Rattle.script_text.specs.declared.script.Job.{Job}
 use Rattle.script_text.specs.declared.script.Order.{Order}
 use Rattle.script_text.specs.declared.script.Order.TheVariants.{Load, Withdraw, Search}
 use Rattle.report_text.specs.declared.report.Block.{Block}
-use Rattle.report_rules.specs.Dealing.{dealt_from, caller_of, loads_in, searches_in}
+use Rattle.report_rules.specs.Dealing.{dealt_from, caller_in_turn, loads_in, searches_in}
 use Rattle.board_jobs.specs.Groups.{place_of}
 use Rattle.script_run.specs.Merging.{AreQueues, IsMerged, places_from, places_of}
 use Rattle.script_run.specs.declared.walk.Outcome.{Outcome}
@@ -35,11 +35,11 @@ blocks_in o = o.blocks.items
 pub same_places : (k : Shape) (n m loads searches : ℕ) (jobs : List Job) → places_of k (dealt_from k n loads searches jobs) ≡ places_of k (dealt_from k m loads searches jobs)
 same_places k n m loads searches [] = refl
 same_places k n m loads searches (job ∷ jobs) =
-    ap (λ (l : List ℕ). place_of k (caller_of k loads searches job.order) ∷ l) (same_places k n m (loads + loads_in job.order) (searches + searches_in job.order) jobs)
+    ap (λ (l : List ℕ). place_of k (caller_in_turn k loads searches job.order) ∷ l) (same_places k n m (loads + loads_in job.order) (searches + searches_in job.order) jobs)
 
 -- one job more
 pub merge_next : (k : Shape) (loads searches loads' searches' : ℕ) (jobs : List Job) (i : ℕ) (job : Job) (all blocks now : List Block) (outcomes : List Outcome) (place : ℕ) (o next : Outcome)
-    → i < length jobs → job ≡ get_or jobs i job → place ≡ place_of k (caller_of k loads searches job.order) → place < length outcomes
+    → i < length jobs → job ≡ get_or jobs i job → place ≡ place_of k (caller_in_turn k loads searches job.order) → place < length outcomes
     → loads' ≡ loads + loads_in job.order → searches' ≡ searches + searches_in job.order
     → blocks_in next ≡ drop 1 (blocks_in (get_or outcomes place o)) → now ≡ blocks ++ take 1 (blocks_in (get_or outcomes place o))
     → all ≡ blocks ++ in_turn (places_from k loads searches (drop i jobs)) (map blocks_in outcomes)

@@ -4,7 +4,7 @@ use Rattle.std.specs.Prelude.{Option, None, Some, flat_map}
 use Rattle.htss_defs.specs.declared.shape.Shape.{Shape}
 use Rattle.script_text.specs.declared.script.Job.{Job}
 use Rattle.script_text.specs.declared.script.Order.{Order}
-use Rattle.report_rules.specs.Dealing.{Caller, Dealt, dealt_from, caller_of, loads_in, searches_in}
+use Rattle.report_rules.specs.Dealing.{Caller, Dealt, dealt_from, caller_in_turn, loads_in, searches_in}
 use Rattle.report_rules.specs.Rules.{is_same}
 use Rattle.board_core.specs.declared.account.Who.{Who}
 use Rattle.board_jobs.specs.Answering.{who_of}
@@ -35,13 +35,13 @@ around_chosen c job jobs false e = ap (λ (l : List Dealt). flat_map (λ (x : De
 abbrev pub places_left : Shape → ℕ → ℕ → List Job → Caller → List Place
 places_left k loads searches rest c = around_own c (dealt_from k 0 loads searches rest)
 
-places_next : (k : Shape) (loads searches : ℕ) (job : Job) (rest later : List Job) (c : Caller) (own : Bool) → rest ≡ job ∷ later → own ≡ is_same (caller_of k loads searches job.order) c
+places_next : (k : Shape) (loads searches : ℕ) (job : Job) (rest later : List Job) (c : Caller) (own : Bool) → rest ≡ job ∷ later → own ≡ is_same (caller_in_turn k loads searches job.order) c
     → places_left k loads searches rest c
     ≡ cond own (around_job c job.line ++ places_left k (loads + loads_in job.order) (searches + searches_in job.order) later c)
     (places_left k (loads + loads_in job.order) (searches + searches_in job.order) later c)
 places_next k loads searches job rest later c own is e =
     ap (λ (l : List Job). places_left k loads searches l c) is
-    ∙ around_chosen c (record { group = 0; caller = caller_of k loads searches job.order; job = job })
+    ∙ around_chosen c (record { group = 0; caller = caller_in_turn k loads searches job.order; job = job })
     (dealt_from k 0 (loads + loads_in job.order) (searches + searches_in job.order) later) own e
 
 -- how far the gate has come when so many jobs are left
@@ -59,12 +59,12 @@ way_at k jobs who before now l s l' s' rest e f way =
 
 -- whether the next job is the caller's own, as it was asked
 pub own_asked : (k asked : Shape) (l s : ℕ) (order : Order) (who now : Who) (own : Bool) → asked ≡ k → now ≡ who
-    → ((c : Caller) → who_of c ≡ now → own ≡ is_same (caller_of asked l s order) c) → (c : Caller) → who_of c ≡ who → own ≡ is_same (caller_of k l s order) c
-own_asked k asked l s order who now own shape same f = λ c mine. f c (mine ∙ sym same) ∙ ap (λ (z : Shape). is_same (caller_of z l s order) c) shape
+    → ((c : Caller) → who_of c ≡ now → own ≡ is_same (caller_in_turn asked l s order) c) → (c : Caller) → who_of c ≡ who → own ≡ is_same (caller_in_turn k l s order) c
+own_asked k asked l s order who now own shape same f = λ c mine. f c (mine ∙ sym same) ∙ ap (λ (z : Shape). is_same (caller_in_turn z l s order) c) shape
 
 -- it was told of a job of its own
 pub way_own : (k : Shape) (jobs : List Job) (who : Who) (before now next : Option (List Place)) (l s l' s' i : ℕ) (job : Job) → i < length jobs → job ≡ get_or jobs i job
-    → ((c : Caller) → who_of c ≡ who → true ≡ is_same (caller_of k l s job.order) c) → ((c : Caller) → who_of c ≡ who → HasPassed now (around_job c job.line) next)
+    → ((c : Caller) → who_of c ≡ who → true ≡ is_same (caller_in_turn k l s job.order) c) → ((c : Caller) → who_of c ≡ who → HasPassed now (around_job c job.line) next)
     → l' ≡ l + loads_in job.order → s' ≡ s + searches_in job.order
     → OnTheWay k jobs who before l s (drop i jobs) now → OnTheWay k jobs who before l' s' (drop (i + 1) jobs) next
 way_own k jobs who before now next l s l' s' i job below at own told el es way =
@@ -81,7 +81,7 @@ way_own k jobs who before now next l s l' s' i job below at own told el es way =
 
 -- another's job was passed over
 pub way_other : (k : Shape) (jobs : List Job) (who : Who) (before now : Option (List Place)) (l s l' s' i : ℕ) (job : Job) → i < length jobs → job ≡ get_or jobs i job
-    → ((c : Caller) → who_of c ≡ who → false ≡ is_same (caller_of k l s job.order) c) → l' ≡ l + loads_in job.order → s' ≡ s + searches_in job.order
+    → ((c : Caller) → who_of c ≡ who → false ≡ is_same (caller_in_turn k l s job.order) c) → l' ≡ l + loads_in job.order → s' ≡ s + searches_in job.order
     → OnTheWay k jobs who before l s (drop i jobs) now → OnTheWay k jobs who before l' s' (drop (i + 1) jobs) now
 way_other k jobs who before now l s l' s' i job below at other el es way =
     way_at k jobs who before now (l + loads_in job.order) (s + searches_in job.order) l' s' (drop (i + 1) jobs) el es
@@ -110,7 +110,7 @@ way_some k jobs all who before now l s rest is way =
 
 -- the job that came next was done, and then memory ran out
 pub way_after : (k : Shape) (jobs all : List Job) (who : Who) (before now next : Option (List Place)) (l s i : ℕ) (job : Job) → i < length jobs → job ≡ get_or jobs i job → jobs ≡ all
-    → ((c : Caller) → who_of c ≡ who → true ≡ is_same (caller_of k l s job.order) c) → ((c : Caller) → who_of c ≡ who → HasPassed now (around_job c job.line) next)
+    → ((c : Caller) → who_of c ≡ who → true ≡ is_same (caller_in_turn k l s job.order) c) → ((c : Caller) → who_of c ≡ who → HasPassed now (around_job c job.line) next)
     → OnTheWay k jobs who before l s (drop i jobs) now → PassedFront k all who before next
 way_after k jobs all who before now next l s i job below at is own told way =
     let m : ℕ = l + loads_in job.order in
@@ -119,7 +119,7 @@ way_after k jobs all who before now next l s i job below at is own told way =
 
 -- memory ran out in the job that came next
 pub way_stopped : (k : Shape) (jobs all : List Job) (who : Who) (before now next : Option (List Place)) (l s i : ℕ) (job : Job) → i < length jobs → job ≡ get_or jobs i job → jobs ≡ all
-    → ((c : Caller) → who_of c ≡ who → true ≡ is_same (caller_of k l s job.order) c) → ((c : Caller) → who_of c ≡ who → HasPassed now (before_job c job.line ∷ []) next)
+    → ((c : Caller) → who_of c ≡ who → true ≡ is_same (caller_in_turn k l s job.order) c) → ((c : Caller) → who_of c ≡ who → HasPassed now (before_job c job.line ∷ []) next)
     → OnTheWay k jobs who before l s (drop i jobs) now → PassedFront k all who before next
 way_stopped k jobs all who before now next l s i job below at is own told way =
     subst (λ (x : List Job). PassedFront k x who before next) is

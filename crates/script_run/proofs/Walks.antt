@@ -9,7 +9,7 @@ use Rattle.script_text.specs.declared.script.Order.{Order}
 use Rattle.script_text.specs.declared.script.Order.TheVariants.{Load, Withdraw, Search}
 use Rattle.report_text.specs.declared.report.Block.{Block}
 use Rattle.report_rules.specs.Answers.{Answer}
-use Rattle.report_rules.specs.Dealing.{Caller, loader, searcher, Dealt, dealt_from, caller_of, loads_in, searches_in}
+use Rattle.report_rules.specs.Dealing.{Caller, loader, searcher, Dealt, dealt_from, caller_in_turn, loads_in, searches_in}
 use Rattle.report_rules.specs.Reports.{Done, done_block}
 use Rattle.report_rules.specs.Rules.{is_same}
 use Rattle.board_core.specs.declared.account.Account.{Account}
@@ -42,7 +42,7 @@ so_far_all k files budget jobs first a loads searches rest blocks none so = λ n
     (s.1, subst (λ (l : List Dealt). OwnDone k files budget c first a l s.1) all s.3, s.4)
 
 abbrev dealt_as : Shape → ℕ → ℕ → ℕ → Job → Dealt
-dealt_as k number loads searches job = record { group = number; caller = caller_of k loads searches job.order; job = job }
+dealt_as k number loads searches job = record { group = number; caller = caller_in_turn k loads searches job.order; job = job }
 
 -- one job more has passed
 one_passed : (k : Shape) (jobs : List Job) (number loads searches : ℕ) (job : Job) (rest later : List Job) (past : List Dealt) → rest ≡ job ∷ later
@@ -54,7 +54,7 @@ one_passed k jobs number loads searches job rest later past is left =
 
 -- a job of its own is done
 pub so_far_own : (k : Shape) (files : List (ℕ × List ℕ)) (budget : ℕ) (jobs : List Job) (first a b : Account) (loads searches : ℕ) (job : Job) (rest later : List Job) (blocks : List Block) (block : Block)
-    → rest ≡ job ∷ later → a.who ≡ first.who → ((c : Caller) → who_of c ≡ a.who → true ≡ is_same (caller_of k loads searches job.order) c)
+    → rest ≡ job ∷ later → a.who ≡ first.who → ((c : Caller) → who_of c ≡ a.who → true ≡ is_same (caller_in_turn k loads searches job.order) c)
     → ((c : Caller) → who_of c ≡ a.who → IsJobDone k files budget c a b job block)
     → SoFar k files budget jobs first a loads searches rest blocks
     → SoFar k files budget jobs first b (loads + loads_in job.order) (searches + searches_in job.order) later (blocks ++ block ∷ [])
@@ -71,7 +71,7 @@ so_far_own k files budget jobs first a b loads searches job rest later blocks bl
 
 -- another's job is passed over
 pub so_far_other : (k : Shape) (files : List (ℕ × List ℕ)) (budget : ℕ) (jobs : List Job) (first a : Account) (loads searches : ℕ) (job : Job) (rest later : List Job) (blocks : List Block)
-    → rest ≡ job ∷ later → a.who ≡ first.who → ((c : Caller) → who_of c ≡ a.who → false ≡ is_same (caller_of k loads searches job.order) c)
+    → rest ≡ job ∷ later → a.who ≡ first.who → ((c : Caller) → who_of c ≡ a.who → false ≡ is_same (caller_in_turn k loads searches job.order) c)
     → SoFar k files budget jobs first a loads searches rest blocks
     → SoFar k files budget jobs first a (loads + loads_in job.order) (searches + searches_in job.order) later blocks
 so_far_other k files budget jobs first a loads searches job rest later blocks is same other so = λ number c who.
@@ -93,7 +93,7 @@ broke_here k files budget jobs first a loads searches rest blocks so = λ number
 
 -- or in the next job
 broke_next : (k : Shape) (files : List (ℕ × List ℕ)) (budget : ℕ) (jobs : List Job) (first a b : Account) (loads searches : ℕ) (job : Job) (rest later : List Job) (blocks : List Block)
-    → rest ≡ job ∷ later → a.who ≡ first.who → ((c : Caller) → who_of c ≡ a.who → true ≡ is_same (caller_of k loads searches job.order) c)
+    → rest ≡ job ∷ later → a.who ≡ first.who → ((c : Caller) → who_of c ≡ a.who → true ≡ is_same (caller_in_turn k loads searches job.order) c)
     → JobBroke k files budget a b job → SoFar k files budget jobs first a loads searches rest blocks → Broke k files budget jobs first b
 broke_next k files budget jobs first a b loads searches job rest later blocks is same own broke so = λ number c who.
     let s = so number c who in
@@ -145,7 +145,7 @@ walked_none b files budget jobs c blocks can none = record {
 }
 
 pub walked_own : (b : Place) (files : List (ℕ × List ℕ)) (budget : ℕ) (jobs : List Job) (first : Account) (c d : Seated) (l s l' s' i : ℕ) (job : Job) (blocks blocks' : List Block) (block : Block) (k : Shape)
-    → k ≡ b.shape → i < length jobs → job ≡ get_or jobs i job → ((x : Caller) → who_of x ≡ c.account.who → true ≡ is_same (caller_of k l s job.order) x)
+    → k ≡ b.shape → i < length jobs → job ≡ get_or jobs i job → ((x : Caller) → who_of x ≡ c.account.who → true ≡ is_same (caller_in_turn k l s job.order) x)
     → CanWork b d → d.account.who ≡ c.account.who → ((x : Caller) → who_of x ≡ c.account.who → IsJobDone b.shape files budget x c.account d.account job block)
     → l' ≡ l + loads_in job.order → s' ≡ s + searches_in job.order → blocks' ≡ blocks ++ block ∷ []
     → Walked b files budget jobs first c l s i blocks → Walked b files budget jobs first d l' s' (i + 1) blocks'
@@ -155,11 +155,11 @@ walked_own b files budget jobs first c d l s l' s' i job blocks blocks' block k 
   few = omega (arith, w.few, el, es, counts_few job.order);
   so_far = so_far_at b.shape files budget jobs first d.account (l + loads_in job.order) (s + searches_in job.order) l' s' (drop (i + 1) jobs) (blocks ++ block ∷ []) blocks' el es eb
       (so_far_own b.shape files budget jobs first c.account d.account l s job (drop i jobs) (drop (i + 1) jobs) blocks block (drop_here jobs i job below at) w.who
-      (subst (λ (z : Shape). (x : Caller) → who_of x ≡ c.account.who → true ≡ is_same (caller_of z l s job.order) x) shape own) done w.so_far);
+      (subst (λ (z : Shape). (x : Caller) → who_of x ≡ c.account.who → true ≡ is_same (caller_in_turn z l s job.order) x) shape own) done w.so_far);
 }
 
 pub walked_other : (b : Place) (files : List (ℕ × List ℕ)) (budget : ℕ) (jobs : List Job) (first : Account) (c : Seated) (l s l' s' i : ℕ) (job : Job) (blocks : List Block) (k : Shape)
-    → k ≡ b.shape → i < length jobs → job ≡ get_or jobs i job → ((x : Caller) → who_of x ≡ c.account.who → false ≡ is_same (caller_of k l s job.order) x)
+    → k ≡ b.shape → i < length jobs → job ≡ get_or jobs i job → ((x : Caller) → who_of x ≡ c.account.who → false ≡ is_same (caller_in_turn k l s job.order) x)
     → l' ≡ l + loads_in job.order → s' ≡ s + searches_in job.order
     → Walked b files budget jobs first c l s i blocks → Walked b files budget jobs first c l' s' (i + 1) blocks
 walked_other b files budget jobs first c l s l' s' i job blocks k shape below at other el es w = record {
@@ -168,28 +168,28 @@ walked_other b files budget jobs first c l s l' s' i job blocks k shape below at
   few = omega (arith, w.few, el, es, counts_few job.order);
   so_far = so_far_at b.shape files budget jobs first c.account (l + loads_in job.order) (s + searches_in job.order) l' s' (drop (i + 1) jobs) blocks blocks el es refl
       (so_far_other b.shape files budget jobs first c.account l s job (drop i jobs) (drop (i + 1) jobs) blocks (drop_here jobs i job below at) w.who
-      (subst (λ (z : Shape). (x : Caller) → who_of x ≡ c.account.who → false ≡ is_same (caller_of z l s job.order) x) shape other) w.so_far);
+      (subst (λ (z : Shape). (x : Caller) → who_of x ≡ c.account.who → false ≡ is_same (caller_in_turn z l s job.order) x) shape other) w.so_far);
 }
 
 -- memory ran out in a job of its own, or when it was done
 pub walked_in : (b : Place) (files : List (ℕ × List ℕ)) (budget : ℕ) (jobs all : List Job) (first : Account) (c d : Seated) (l s i : ℕ) (job : Job) (blocks : List Block) (k : Shape)
-    → k ≡ b.shape → i < length jobs → job ≡ get_or jobs i job → ((x : Caller) → who_of x ≡ c.account.who → true ≡ is_same (caller_of k l s job.order) x)
+    → k ≡ b.shape → i < length jobs → job ≡ get_or jobs i job → ((x : Caller) → who_of x ≡ c.account.who → true ≡ is_same (caller_in_turn k l s job.order) x)
     → JobBroke b.shape files budget c.account d.account job → jobs ≡ all
     → Walked b files budget jobs first c l s i blocks → Broke b.shape files budget all first d.account
 walked_in b files budget jobs all first c d l s i job blocks k shape below at own broke is w =
     subst (λ (x : List Job). Broke b.shape files budget x first d.account) is
     (broke_next b.shape files budget jobs first c.account d.account l s job (drop i jobs) (drop (i + 1) jobs) blocks (drop_here jobs i job below at) w.who
-    (subst (λ (z : Shape). (x : Caller) → who_of x ≡ c.account.who → true ≡ is_same (caller_of z l s job.order) x) shape own) broke w.so_far)
+    (subst (λ (z : Shape). (x : Caller) → who_of x ≡ c.account.who → true ≡ is_same (caller_in_turn z l s job.order) x) shape own) broke w.so_far)
 
 pub walked_after : (b : Place) (files : List (ℕ × List ℕ)) (budget : ℕ) (jobs all : List Job) (first : Account) (c d : Seated) (l s i : ℕ) (job : Job) (blocks : List Block) (block : Block) (k : Shape)
-    → k ≡ b.shape → i < length jobs → job ≡ get_or jobs i job → ((x : Caller) → who_of x ≡ c.account.who → true ≡ is_same (caller_of k l s job.order) x)
+    → k ≡ b.shape → i < length jobs → job ≡ get_or jobs i job → ((x : Caller) → who_of x ≡ c.account.who → true ≡ is_same (caller_in_turn k l s job.order) x)
     → ((x : Caller) → who_of x ≡ c.account.who → IsJobDone b.shape files budget x c.account d.account job block) → jobs ≡ all
     → Walked b files budget jobs first c l s i blocks → Broke b.shape files budget all first d.account
 walked_after b files budget jobs all first c d l s i job blocks block k shape below at own done is w =
     subst (λ (x : List Job). Broke b.shape files budget x first d.account) is
     (broke_here b.shape files budget jobs first d.account (l + loads_in job.order) (s + searches_in job.order) (drop (i + 1) jobs) (blocks ++ block ∷ [])
     (so_far_own b.shape files budget jobs first c.account d.account l s job (drop i jobs) (drop (i + 1) jobs) blocks block (drop_here jobs i job below at) w.who
-    (subst (λ (z : Shape). (x : Caller) → who_of x ≡ c.account.who → true ≡ is_same (caller_of z l s job.order) x) shape own) done w.so_far))
+    (subst (λ (z : Shape). (x : Caller) → who_of x ≡ c.account.who → true ≡ is_same (caller_in_turn z l s job.order) x) shape own) done w.so_far))
 
 pub drop_past : (l : List Job) (i : ℕ) → length l ≤ i → drop i l ≡ []
 drop_past [] zero h = refl
@@ -211,7 +211,7 @@ by_result P Q (Err b) ok e p q = subst (λ (t : Bool). MatchBool t P Q) (sym e) 
 who_loader : (c : Seated) (n : ℕ) → who_of (loader n) ≡ c.account.who → IsLoader c
 who_loader c n e = sym e ∙ ap (λ (w : Who). who_of (loader (number_in w))) e
 
-order_for : (k : Shape) (loads searches : ℕ) (order : Order) (c : Seated) (who : Caller) → who_of who ≡ c.account.who → true ≡ is_same (caller_of k loads searches order) who → IsOrderOf c order
+order_for : (k : Shape) (loads searches : ℕ) (order : Order) (c : Seated) (who : Caller) → who_of who ≡ c.account.who → true ≡ is_same (caller_in_turn k loads searches order) who → IsOrderOf c order
 order_for k loads searches (Load file) c (loader n) e same = who_loader c n e
 order_for k loads searches (Withdraw number) c (loader n) e same = who_loader c n e
 order_for k loads searches (Load file) c (searcher n) e same = absurd cc
@@ -220,7 +220,7 @@ order_for k loads searches (Search file budget) c who e same = tt
 
 -- what is dealt to a caller is for it
 pub order_of : (k : Shape) (loads searches : ℕ) (order : Order) (c : Seated) (who : Caller) → who_of who ≡ c.account.who
-    → ((x : Caller) → who_of x ≡ c.account.who → true ≡ is_same (caller_of k loads searches order) x) → IsOrderOf c order
+    → ((x : Caller) → who_of x ≡ c.account.who → true ≡ is_same (caller_in_turn k loads searches order) x) → IsOrderOf c order
 order_of k loads searches order c who e own = order_for k loads searches order c who e (own who e)
 
 -- ---- all workers

@@ -1,7 +1,7 @@
 // Which worker does which job.
 ghost use Rattle.std.specs.Prelude.{◌≡◌, ◌+◌, ◌<◌, ◌^◌};
 ghost use Rattle.htss_defs.specs.Shapes.{IsShape};
-ghost use Rattle.report_rules.specs.Dealing.{Caller as ScriptCaller, caller_of, loads_in, searches_in};
+ghost use Rattle.report_rules.specs.Dealing.{Caller as ScriptCaller, caller_in_turn, loads_in, searches_in};
 ghost use Rattle.report_rules.specs.Rules.{is_same};
 ghost use Rattle.board_jobs.specs.Answering.{who_of};
 ghost use Rattle.board_jobs.specs.Groups.{place_of};
@@ -63,7 +63,7 @@ pub fn has_job(caller: &Caller, jobs: Count) -> bool {
 pub fn is_own(shape: Shape, caller: &Caller, count: Count, order: &Order) -> bool
     requires { IsShape shape }
     ensures { (c : ScriptCaller) → who_of c ≡ caller.now.account.who
-        → result ≡ is_same (caller_of shape count.loads count.searches order.now) c }
+        → result ≡ is_same (caller_in_turn shape count.loads count.searches order.now) c }
 {
     let number = caller.number() as usize;
     match order {
@@ -79,7 +79,7 @@ pub fn is_own(shape: Shape, caller: &Caller, count: Count, order: &Order) -> boo
 /// The place of the worker that the next job is dealt to: loaders first, then searchers.
 pub fn place_for(shape: Shape, count: Count, order: &Order) -> usize
     requires { IsShape shape }
-    ensures at { result ≡ place_of shape (caller_of shape count.loads count.searches order.now) }
+    ensures at { result ≡ place_of shape (caller_in_turn shape count.loads count.searches order.now) }
     ensures within { result < shape.loaders + shape.searchers }
 {
     let loaders = shape.loaders as usize;

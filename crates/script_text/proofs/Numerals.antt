@@ -8,7 +8,7 @@ use Rattle.std.proofs.lemmas.Str.{IsUtf8-from_ascii}
 use Rattle.std.proofs.lemmas.Str.Ascii.{IsAscii-from_all}
 use Rattle.std.proofs.lemmas.List.Elements.{All-nil, All-cons, All-weaker}
 use Rattle.htss_defs.specs.FileName.{IsFileName}
-use Rattle.script_text.specs.Grammar.{is_digit, is_numeral, number_of}
+use Rattle.script_text.specs.Grammar.{is_digit, is_numeral, number_below}
 
 -- the value that was read, if any
 abbrev pub read_value : {E : Type 0} → Result ℕ E → Option ℕ
@@ -36,23 +36,23 @@ numeral_utf8 most word is = IsUtf8-from_ascii word (IsAscii-from_all word (below
 pub name_utf8 : (word : List ℕ) → IsFileName word → IsUtf8 word
 name_utf8 word is = IsUtf8-from_ascii word (IsAscii-from_all word (All-weaker (λ b. (33 ≤ b) × (b ≤ 126)) (λ b. b < 128) (λ b seen. omega (arith, seen.1)) word is.visible))
 
-below : (most limit : ℕ) (word : List ℕ) → is_numeral most word ≡ true → digits_value 10 word < limit → number_of most limit word ≡ Some (digits_value 10 word)
-unfolding number_of
+below : (most limit : ℕ) (word : List ℕ) → is_numeral most word ≡ true → digits_value 10 word < limit → number_below most limit word ≡ Some (digits_value 10 word)
+unfolding number_below
 below most limit word is less = grind arith
 
-above : (most limit : ℕ) (word : List ℕ) → is_numeral most word ≡ true → (digits_value 10 word < limit → ⊥) → number_of most limit word ≡ None
-unfolding number_of
+above : (most limit : ℕ) (word : List ℕ) → is_numeral most word ≡ true → (digits_value 10 word < limit → ⊥) → number_below most limit word ≡ None
+unfolding number_below
 above most limit word is more = grind arith
 
-pub number_of-parsed : {E : Type 0} (most bits : ℕ) (word : List ℕ) (result : Result ℕ E) → is_numeral most word ≡ true → ParsesUnsigned bits 10 word result → read_value result ≡ number_of most (2 ^ bits) word
-number_of-parsed most bits word (Ok n) is parses =
+pub number_below-parsed : {E : Type 0} (most bits : ℕ) (word : List ℕ) (result : Result ℕ E) → is_numeral most word ≡ true → ParsesUnsigned bits 10 word result → read_value result ≡ number_below most (2 ^ bits) word
+number_below-parsed most bits word (Ok n) is parses =
     let same = no_plus word (numeral most word is).1 in
     let less : digits_value 10 word < 2 ^ bits = subst (λ (w : List ℕ). digits_value 10 w < 2 ^ bits) same parses.0.1 in
     ap Some (parses.1 ∙ ap (digits_value 10) same) ∙ sym (below most (2 ^ bits) word is less)
-number_of-parsed most bits word (Err e) is parses =
+number_below-parsed most bits word (Err e) is parses =
     let same = no_plus word (numeral most word is).1 in
     sym (above most (2 ^ bits) word is (λ less. parses (subst (λ (w : List ℕ). IsNumeral 10 w × (digits_value 10 w < 2 ^ bits)) (sym same) (((numeral most word is).0, all_digits word (numeral most word is).1), less))))
 
-pub number_of-none : (most limit : ℕ) (word : List ℕ) → is_numeral most word ≡ false → number_of most limit word ≡ None
-unfolding number_of
-number_of-none most limit word is = grind arith
+pub number_below-none : (most limit : ℕ) (word : List ℕ) → is_numeral most word ≡ false → number_below most limit word ≡ None
+unfolding number_below
+number_below-none most limit word is = grind arith

@@ -29,8 +29,8 @@ abbrev pub is_numeral : ℕ → List ℕ → Bool
 is_numeral most word = nat_le 1 (length word) && (nat_le (length word) most && list_all is_digit word)
 
 -- the value of 1 to so many digits, leading zeros allowed, where it is below the limit
-unfoldable pub number_of : ℕ → ℕ → List ℕ → Option ℕ
-number_of most limit word = if is_numeral most word && nat_lt (digits_value 10 word) limit then Some (digits_value 10 word) else None
+unfoldable pub number_below : ℕ → ℕ → List ℕ → Option ℕ
+number_below most limit word = if is_numeral most word && nat_lt (digits_value 10 word) limit then Some (digits_value 10 word) else None
 
 -- the line that asks for the withdrawal of a number, if it is one
 abbrev pub withdrawal : Option ℕ → Saying
@@ -47,11 +47,11 @@ abbrev pub words_say : List (List ℕ) → Saying
 words_say (command ∷ []) = if bytes_eq command (codes "settle") then Settles else Wrong
 words_say (command ∷ word ∷ []) =
     if bytes_eq command (codes "load") then Asks (Load word)
-    else (if bytes_eq command (codes "withdraw") then withdrawal (number_of 10 (2 ^ 32) word)
+    else (if bytes_eq command (codes "withdraw") then withdrawal (number_below 10 (2 ^ 32) word)
     else (if bytes_eq command (codes "search") then Asks (Search word None)
     else Wrong))
 words_say (command ∷ file ∷ budget ∷ []) =
-    if bytes_eq command (codes "search") then search_under file (number_of 20 (2 ^ 64) budget) else Wrong
+    if bytes_eq command (codes "search") then search_under file (number_below 20 (2 ^ 64) budget) else Wrong
 words_say _ = Wrong
 
 -- what a line says: a comment and a blank line are passed over, whatever their length

@@ -2,7 +2,7 @@
 ghost use Rattle.std.specs.Prelude.{◌≡◌, ◌^◌, ◌≤◌, IsTrue, IfSome, length};
 ghost use Rattle.std.specs.Str.{IsUtf8};
 ghost use Rattle.std.specs.List.{list_all};
-ghost use Rattle.script_text.specs.Grammar.{is_digit, is_numeral, number_of};
+ghost use Rattle.script_text.specs.Grammar.{is_digit, is_numeral, number_below};
 
 // The most digits of the number of a record, and of any number.
 const NUMBER_DIGITS: usize = 10;
@@ -11,7 +11,7 @@ const MOST_DIGITS: usize = 20;
 
 /// The number of a record, in 1 to 10 digits, where it is below 2^32.
 pub fn record_number(word: &[u8]) -> Option<u32>
-    ensures { result ≡ number_of 10 (2 ^ 32) word.now }
+    ensures { result ≡ number_below 10 (2 ^ 32) word.now }
 {
     if !is_numeral(word, NUMBER_DIGITS) {
         return None;
@@ -24,7 +24,7 @@ pub fn record_number(word: &[u8]) -> Option<u32>
 
 /// The value of 1 to 20 digits, leading zeros allowed, where it is below 2^64.
 pub fn whole_number(word: &[u8]) -> Option<u64>
-    ensures { result ≡ number_of 20 (2 ^ 64) word.now }
+    ensures { result ≡ number_below 20 (2 ^ 64) word.now }
 {
     if !is_numeral(word, MOST_DIGITS) {
         return None;

@@ -3,7 +3,7 @@ ghost use Rattle.std.specs.Prelude.{◌≡◌, ◌^◌, ◌∷◌, [], All, IfOk
 ghost use Rattle.std.specs.List.{list_all};
 ghost use Rattle.htss_defs.specs.FileName.{IsFileName};
 ghost use Rattle.mol_section.specs.Fields.{is_blank, words_of};
-ghost use Rattle.script_text.specs.Grammar.{is_comment, is_plain, is_printable, number_of, says, withdrawal, words_say};
+ghost use Rattle.script_text.specs.Grammar.{is_comment, is_plain, is_printable, number_below, says, withdrawal, words_say};
 
 use crate::Order;
 use crate::numbers::{record_number, text_of, whole_number};
@@ -116,7 +116,7 @@ fn two_words_say(
 
 // What a withdrawal of the number that the word writes says.
 fn withdrawal(word: &[u8]) -> Saying
-    ensures { result ≡ withdrawal (number_of 10 (2 ^ 32) word.now) }
+    ensures { result ≡ withdrawal (number_below 10 (2 ^ 32) word.now) }
 {
     match record_number(word) {
         Some(number) => Saying::Asks(Order::Withdraw { number }),

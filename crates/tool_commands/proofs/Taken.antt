@@ -7,7 +7,7 @@ use Rattle.htss_defs.specs.Molecule.{Molecule}
 use Rattle.htss_defs.specs.QueryGraph.{QueryGraph}
 use Rattle.hit_report.specs.RecordLines.{ok_line, refused_line, records_line}
 use Rattle.mol_section.specs.SectionRecord.{Outcome, accepted, refused}
-use Rattle.command_ends.specs.RecordTexts.{accepted_records, refused_count, refused_lines, record_lines, check_text}
+use Rattle.command_ends.specs.RecordTexts.{accepted_records, refused_count, refused_lines, check_lines, check_text}
 use Rattle.tool_commands.specs.Searches.{SearchHolds}
 use Rattle.tool_commands.specs.Takers.{CheckHolds, FindHolds}
 
@@ -35,16 +35,16 @@ refused_lines-push place (refused line code ∷ outcomes) one =
     ∙ sym (append_assoc (refused_line place line code) (refused_lines (place + 1) outcomes) (refused_lines (place + length (refused line code ∷ outcomes)) (one ∷ [])))
 
 line_of : ℕ → Outcome → List ℕ
-line_of place one = record_lines place (one ∷ [])
+line_of place one = check_lines place (one ∷ [])
 
-record_lines-push : (place : ℕ) (outcomes : List Outcome) (one : Outcome) → record_lines place (outcomes ++ one ∷ []) ≡ record_lines place outcomes ++ record_lines (place + length outcomes) (one ∷ [])
-record_lines-push place [] one = ap (λ (p : ℕ). record_lines p (one ∷ [])) (omega arith)
-record_lines-push place (accepted name mol ∷ outcomes) one =
-    ap (λ (x : List ℕ). ok_line place (length mol.atoms) (length mol.bonds) name ++ x) (record_lines-push (place + 1) outcomes one ∙ ap (λ (p : ℕ). record_lines (place + 1) outcomes ++ record_lines p (one ∷ [])) (later place outcomes (accepted name mol)))
-    ∙ sym (append_assoc (ok_line place (length mol.atoms) (length mol.bonds) name) (record_lines (place + 1) outcomes) (record_lines (place + length (accepted name mol ∷ outcomes)) (one ∷ [])))
-record_lines-push place (refused line code ∷ outcomes) one =
-    ap (λ (x : List ℕ). refused_line place line code ++ x) (record_lines-push (place + 1) outcomes one ∙ ap (λ (p : ℕ). record_lines (place + 1) outcomes ++ record_lines p (one ∷ [])) (later place outcomes (refused line code)))
-    ∙ sym (append_assoc (refused_line place line code) (record_lines (place + 1) outcomes) (record_lines (place + length (refused line code ∷ outcomes)) (one ∷ [])))
+check_lines-push : (place : ℕ) (outcomes : List Outcome) (one : Outcome) → check_lines place (outcomes ++ one ∷ []) ≡ check_lines place outcomes ++ check_lines (place + length outcomes) (one ∷ [])
+check_lines-push place [] one = ap (λ (p : ℕ). check_lines p (one ∷ [])) (omega arith)
+check_lines-push place (accepted name mol ∷ outcomes) one =
+    ap (λ (x : List ℕ). ok_line place (length mol.atoms) (length mol.bonds) name ++ x) (check_lines-push (place + 1) outcomes one ∙ ap (λ (p : ℕ). check_lines (place + 1) outcomes ++ check_lines p (one ∷ [])) (later place outcomes (accepted name mol)))
+    ∙ sym (append_assoc (ok_line place (length mol.atoms) (length mol.bonds) name) (check_lines (place + 1) outcomes) (check_lines (place + length (accepted name mol ∷ outcomes)) (one ∷ [])))
+check_lines-push place (refused line code ∷ outcomes) one =
+    ap (λ (x : List ℕ). refused_line place line code ++ x) (check_lines-push (place + 1) outcomes one ∙ ap (λ (p : ℕ). check_lines (place + 1) outcomes ++ check_lines p (one ∷ [])) (later place outcomes (refused line code)))
+    ∙ sym (append_assoc (refused_line place line code) (check_lines (place + 1) outcomes) (check_lines (place + length (refused line code ∷ outcomes)) (one ∷ [])))
 
 -- ---- `check`
 
@@ -53,8 +53,8 @@ pub CheckHolds-accepted : (text longer : List ℕ) (a a' r place atoms bonds : �
 CheckHolds-accepted text longer a a' r place atoms bonds shown name mol outcomes holds at grown atoms-is bonds-is name-is more = record {
   text_is = grown
       ∙ ap (λ (x : List ℕ). x ++ ok_line place atoms bonds shown) holds.text_is
-      ∙ ap (λ (x : List ℕ). record_lines 1 outcomes ++ x) (line ∙ sym (append-nil (ok_line (1 + length outcomes) (length mol.atoms) (length mol.bonds) name)))
-      ∙ sym (record_lines-push 1 outcomes (accepted name mol));
+      ∙ ap (λ (x : List ℕ). check_lines 1 outcomes ++ x) (line ∙ sym (append-nil (ok_line (1 + length outcomes) (length mol.atoms) (length mol.bonds) name)))
+      ∙ sym (check_lines-push 1 outcomes (accepted name mol));
   accepted_is = omega (arith, more, holds.accepted_is, ap length (accepted_records-push outcomes (accepted name mol)), length_push (accepted_records outcomes) (record { name = name; mol = mol }));
   refused_is = omega (arith, holds.refused_is, refused_count-push outcomes (accepted name mol));
 }
@@ -71,8 +71,8 @@ pub CheckHolds-refused : (text longer : List ℕ) (a r r' place line code : ℕ)
 CheckHolds-refused text longer a r r' place line code outcomes holds at grown more = record {
   text_is = grown
       ∙ ap (λ (x : List ℕ). x ++ refused_line place line code) holds.text_is
-      ∙ ap (λ (x : List ℕ). record_lines 1 outcomes ++ x) (ap (λ (p : ℕ). refused_line p line code) (omega (arith, at)) ∙ sym (append-nil (refused_line (1 + length outcomes) line code)))
-      ∙ sym (record_lines-push 1 outcomes (refused line code));
+      ∙ ap (λ (x : List ℕ). check_lines 1 outcomes ++ x) (ap (λ (p : ℕ). refused_line p line code) (omega (arith, at)) ∙ sym (append-nil (refused_line (1 + length outcomes) line code)))
+      ∙ sym (check_lines-push 1 outcomes (refused line code));
   accepted_is = omega (arith, holds.accepted_is, ap length (accepted_records-push outcomes (refused line code)), length-append (accepted_records outcomes) []);
   refused_is = omega (arith, more, holds.refused_is, refused_count-push outcomes (refused line code));
 }
@@ -85,9 +85,9 @@ all_counted (refused line code ∷ outcomes) = omega (arith, all_counted outcome
 pub check_text-from : (text whole : List ℕ) (a r place : ℕ) (outcomes : List Outcome) → CheckHolds text a r outcomes → a + r ≡ place → whole ≡ text ++ records_line place a r → whole ≡ check_text outcomes
 check_text-from text whole a r place outcomes holds sum grown =
     grown ∙ ap (λ (x : List ℕ). x ++ records_line place a r) holds.text_is
-    ∙ ap (λ (n : ℕ). record_lines 1 outcomes ++ records_line n a r) (sym sum ∙ omega (arith, holds.accepted_is, holds.refused_is, all_counted outcomes))
-    ∙ ap (λ (n : ℕ). record_lines 1 outcomes ++ records_line (length outcomes) n r) holds.accepted_is
-    ∙ ap (λ (n : ℕ). record_lines 1 outcomes ++ records_line (length outcomes) (length (accepted_records outcomes)) n) holds.refused_is
+    ∙ ap (λ (n : ℕ). check_lines 1 outcomes ++ records_line n a r) (sym sum ∙ omega (arith, holds.accepted_is, holds.refused_is, all_counted outcomes))
+    ∙ ap (λ (n : ℕ). check_lines 1 outcomes ++ records_line (length outcomes) n r) holds.accepted_is
+    ∙ ap (λ (n : ℕ). check_lines 1 outcomes ++ records_line (length outcomes) (length (accepted_records outcomes)) n) holds.refused_is
 
 -- ---- `find`
 

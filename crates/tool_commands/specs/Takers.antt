@@ -5,7 +5,7 @@ use Rattle.htss_defs.specs.History.{publications}
 use Rattle.htss_defs.specs.Hits.{AreHits}
 use Rattle.htss_defs.specs.QueryGraph.{QueryGraph}
 use Rattle.mol_section.specs.SectionRecord.{Outcome}
-use Rattle.command_ends.specs.RecordTexts.{accepted_records, record_lines, refused_count, refused_lines}
+use Rattle.command_ends.specs.RecordTexts.{accepted_records, check_lines, refused_count, refused_lines}
 use Rattle.tool_commands.specs.Searches.{SearchHolds}
 
 -- of these outcomes: the lines of the refused ones, what a search keeps of the others, and how many those are
@@ -16,7 +16,7 @@ pub record FindHolds (query : QueryGraph) (budget : ℕ) (refused : List ℕ) (l
 
 -- of these outcomes: a line for each, and how many are accepted and refused
 pub record CheckHolds (text : List ℕ) (accepted refused : ℕ) (outcomes : List Outcome) : Type 0 where
-  pub text_is : text ≡ record_lines 1 outcomes
+  pub text_is : text ≡ check_lines 1 outcomes
   pub accepted_is : accepted ≡ length (accepted_records outcomes)
   pub refused_is : refused ≡ refused_count outcomes
 

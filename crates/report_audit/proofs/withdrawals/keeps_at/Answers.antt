@@ -5,7 +5,7 @@ use Rattle.report_rules.specs.Answers.{to_withdrawal}
 use Rattle.report_rules.specs.Faults.{IsAsLogged, line_by}
 use Rattle.report_audit.proofs.Keeping.{as_long, event_taken, is_next, keeps_event}
 use Rattle.htss_defs.specs.declared.history.Event.TheVariants.{Withdraw}
-use Rattle.report_rules.specs.Rules.{number_of}
+use Rattle.report_rules.specs.Rules.{caller_number}
 use Rattle.report_audit.proofs.withdrawals.keeps_at.Goals as goal
 
 pub returns-clause-kept : goal.returns-clause-kept
@@ -18,4 +18,4 @@ pub returns-clause-fault : goal.returns-clause-fault
 returns-clause-fault c = λ no s earlier one next kept.
     let line = to_withdrawal c.args.number (answer.At c.args.event) in
     c.is_new.ensures.old no earlier (line_by one line) (is_next c.args.told.now c.args.so_far.now c.args.caller s earlier one line next) next.lines kept.rule.0.0
-    (event_taken c.args.told.now c.args.so_far.now c.args.caller s earlier one c.args.event (Withdraw (number_of one.caller) c.args.number) next kept.rule.0) kept.rule.1
+    (event_taken c.args.told.now c.args.so_far.now c.args.caller s earlier one c.args.event (Withdraw (caller_number one.caller) c.args.number) next kept.rule.0) kept.rule.1
