@@ -1,4 +1,4 @@
-use Rattle.std.proofs.Common.{ℕ, [], sym, subst}
+use Rattle.std.proofs.Common.{ℕ, [], refl, sym, subst}
 use Rattle.std.specs.Prelude.{Some}
 use Rattle.command_words.specs.Tasks.{run_of}
 use Rattle.command_ends.specs.Outcomes.{stop_why}
@@ -18,7 +18,7 @@ returns-in-Err-clause-ends g c =
     let out_now = seen_out g.K.Sink.written g.K.Sink.faults c.write_stopped.new.out in
     subst (λ (status : ℕ). EndsAs (Some task) shelf shelf_now out out_now status) (sym c.without_board.ensures.status)
     (EndsAs-stopped task shelf shelf_now out out_now c.write_stopped.result [] (stop_why c.in-Err.stop)
-    (c.in-Err.ensures.stop c.args.shape c.args.budget) c.write_stopped.ensures.written c.script_of.ensures.goes_on c.write_stopped.ensures.later)
+    (c.in-Err.ensures.stop task refl) c.write_stopped.ensures.written c.script_of.ensures.goes_on c.write_stopped.ensures.later)
 
 pub returns-in-Err-clause-last : goal.returns-in-Err-clause-last
 returns-in-Err-clause-last g c =
