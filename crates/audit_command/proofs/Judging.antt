@@ -31,7 +31,7 @@ use Rattle.report_rules.specs.Faults.{block_length, line_of_event, search_length
 use Rattle.report_audit.specs.declared.verdict.Verdict.{Verdict}
 use Rattle.report_audit.specs.declared.verdict.Verdict.TheVariants.{Holds, Differs}
 use Rattle.report_audit.specs.Audits.{IsVerdict, MayBeAudited}
-use Rattle.report_audit.specs.Reads as reads
+use Rattle.told_history.specs.Reads as reads
 use Rattle.audit_command.specs.Findings.{IsJudged}
 use Rattle.command_ends.specs.RunText.{AreFilesOf, HasItsFile, IsFileOf, file_named, jobs_of}
 use Rattle.script_text.specs.declared.script.Group.{Group}

@@ -2,7 +2,7 @@
 ghost use Rattle.std.specs.Prelude.{ℕ, ◌^◌, ◌<◌, ◌≤◌, length, All, IfOk};
 ghost use Rattle.outside.specs.Files.{file_limit};
 ghost use Rattle.command_ends.specs.RunText.{jobs_of};
-ghost use Rattle.report_audit.specs.Reads.{HasItsFile};
+ghost use Rattle.told_history.specs.Reads.{HasItsFile};
 ghost use Rattle.audit_command.specs.Findings.{IsJudged};
 
 use htss_defs::OutOfMemory;

@@ -2,7 +2,7 @@
 use Rattle.std.proofs.Common.{min, ◌^◌, ◌≡◌, ◌⊎◌, inl, inr, ℕ, zero, suc, ◌+◌, ◌-◌, ◌<◌, ◌≤◌, Bool, List, [], ◌∷◌, ◌++◌, length, map, take, All, sum_by, refl, sym, ap, subst, ◌∙◌, arith}
 use Rattle.std.specs.Prelude.{Option, Some, None, Contains, slice_get, slice_index_or}
 use Rattle.std.specs.List.{flat_map}
-use Rattle.std.proofs.lemmas.List.{map-append, take_all}
+use Rattle.std.proofs.lemmas.List.{length-map, map-append, take_all}
 use Rattle.std.proofs.lemmas.List.Concat.{flat_map-cons}
 use Rattle.std.proofs.lemmas.List.Sums.{sum_by-append, sum_by-cons}
 use Rattle.std.proofs.lemmas.List.Elements.{All-nil}
@@ -20,17 +20,16 @@ use Rattle.report_rules.specs.Dealing.{Dealt, caller_in_turn, dealt, dealt_from,
 use Rattle.report_rules.specs.Faults.{IsBlockFault, IsInnerFault, IsLoadFault, IsRuleFault, IsUnnamed, Setting, block_length, line_after, names}
 use Rattle.report_rules.specs.Reports.{Done, done_lines}
 use Rattle.report_rules.specs.Rules.{Line}
-use Rattle.report_audit.specs.declared.jobs.LaidJob.{LaidJob}
+use Rattle.told_history.specs.declared.jobs.LaidJob.{LaidJob}
 use Rattle.report_audit.specs.declared.so_far.SoFar.{SoFar}
-use Rattle.report_audit.specs.declared.told.Told.{Told}
+use Rattle.told_history.specs.declared.told.Told.{Told}
 use Rattle.report_audit.specs.Audits.{jobs_in}
 use Rattle.report_audit.specs.BlockChecks.{HasKept, IsAllKept, IsFaultAfter}
-use Rattle.report_audit.specs.Callers.{dealt_by, job_of, searches_of}
+use Rattle.told_history.specs.LaidJobs.{dealt_by, job_of, searches_of}
 use Rattle.report_audit.specs.SoFars.{IsFree}
-use Rattle.report_audit.specs.Telling.{Tells}
+use Rattle.told_history.specs.Telling.{Tells}
 use Rattle.report_audit.proofs.Taking.{never_both}
-use Rattle.report_audit.proofs.TellEvents.{told_length}
-use Rattle.report_audit.proofs.LoadMore.{length_map}
+use Rattle.told_history.proofs.TellEvents.{told_length}
 
 -- ---- a fault is within its block
 
@@ -190,7 +189,7 @@ get_map f (x ∷ xs) zero d = refl
 get_map f (x ∷ xs) (suc k) d = get_map f xs k d
 
 all_back : {X Y : Type 0} (P : Y → Type 0) (f : X → Y) (xs : List X) → All P (map f xs) → All (λ x. P (f x)) xs
-all_back P f xs all = λ k d within. subst P (get_map f xs k d) (all k (f d) (omega (arith, within, length_map f xs)))
+all_back P f xs all = λ k d within. subst P (get_map f xs k d) (all k (f d) (omega (arith, within, length-map xs f)))
 
 pub each_job : (P : Job → Type 0) (jobs : List LaidJob) (all_jobs : List Job) → map job_of jobs ≡ all_jobs → All P all_jobs → All (λ laid. P (job_of laid)) jobs
 each_job P jobs all_jobs are all = all_back P job_of jobs (subst (All P) (sym are) all)

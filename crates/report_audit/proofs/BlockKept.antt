@@ -26,15 +26,15 @@ use Rattle.report_rules.specs.Dealing.{Dealt}
 use Rattle.report_rules.specs.Faults.{Asks, AsksNothing, HeadKeeps, IsBlockFault, IsBlockFor, IsHitFault, IsLoadFault, KeepsFront, Setting, answer_line, keeps, line_by, own_budget}
 use Rattle.report_rules.specs.Reports.{Done, IsAnswerTo, IsByItsFile, IsSearchFor, budget_or, done_lines}
 use Rattle.report_rules.specs.Rules.{Line}
-use Rattle.report_audit.specs.declared.reads.JobRead.{JobRead}
-use Rattle.report_audit.specs.declared.reads.JobRead.TheVariants.{Records, Asked, Nothing}
+use Rattle.told_history.specs.declared.reads.JobRead.{JobRead}
+use Rattle.told_history.specs.declared.reads.JobRead.TheVariants.{Records, Asked, Nothing}
 use Rattle.report_audit.specs.declared.so_far.SoFar.{SoFar}
 use Rattle.report_audit.specs.declared.tally.Caller as code
-use Rattle.report_audit.specs.declared.told.Told.{Told}
+use Rattle.told_history.specs.declared.told.Told.{Told}
 use Rattle.report_audit.specs.BlockChecks.{HasLoaded, IsKeptBlock, IsRefusedSo, IsTurnOf, query_in}
 use Rattle.report_audit.specs.LineChecks.{IsNextOf}
-use Rattle.report_audit.specs.Named.{records_in}
-use Rattle.report_audit.specs.Reads as reads
+use Rattle.told_history.specs.Named.{records_in}
+use Rattle.told_history.specs.Reads as reads
 use Rattle.report_audit.specs.SoFars.{IsSoFar}
 use Rattle.report_audit.proofs.LoadMore.{some_none, some_same, split_last}
 

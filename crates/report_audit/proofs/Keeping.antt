@@ -17,16 +17,16 @@ use Rattle.report_rules.specs.Dealing as dealing
 use Rattle.report_rules.specs.Dealing.{Dealt}
 use Rattle.report_rules.specs.Faults.{IsAsLogged, Setting, answer_line, keeps, line_by}
 use Rattle.report_rules.specs.Rules.{IsNew, Line, caller_number}
-use Rattle.report_audit.specs.declared.records.RecordRead.{RecordRead}
-use Rattle.report_audit.specs.declared.records.RecordRead.TheVariants.{Accepted, Refused}
+use Rattle.told_history.specs.declared.records.RecordRead.{RecordRead}
+use Rattle.told_history.specs.declared.records.RecordRead.TheVariants.{Accepted, Refused}
 use Rattle.report_audit.specs.declared.so_far.SoFar.{SoFar}
 use Rattle.report_audit.specs.declared.tally.Caller as code
-use Rattle.report_audit.specs.declared.told.Told.{Told}
+use Rattle.told_history.specs.declared.told.Told.{Told}
 use Rattle.report_audit.specs.Callers.{caller_of}
 use Rattle.report_audit.specs.LineChecks.{IsNextOf, answer_to, fate_of}
-use Rattle.report_audit.specs.Reads as reads
+use Rattle.told_history.specs.Reads as reads
 use Rattle.report_audit.specs.Tallied.{IsNext}
-use Rattle.report_audit.proofs.TellEvents.{told_length}
+use Rattle.told_history.proofs.TellEvents.{told_length}
 
 by_flag : (b : Bool) (n : ℕ) → caller_number (if b then dealing.loader n else dealing.searcher n) ≡ n
 by_flag true n = refl

@@ -1,14 +1,7 @@
-pub mod LogChecks
 pub mod Tallies
 pub mod Tallying
 pub mod TallyTests
-pub mod Laying
-pub mod Zips
-pub mod Naming
-pub mod Namings
-pub mod Markings
 pub mod Taking
-pub mod TellEvents
 pub mod Carrying
 pub mod LoadMore
 pub mod BlockKept
@@ -17,7 +10,3 @@ pub mod Auditing
 pub mod Keeping
 pub mod Founds
 pub mod Verdicts
-pub mod OneScreened
-pub mod LiveTold
-pub mod Surveyed
-pub mod Weighed

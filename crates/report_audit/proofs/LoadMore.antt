@@ -15,13 +15,13 @@ use Rattle.reg_model.proofs.Events.{event-within}
 use Rattle.report_rules.specs.Dealing.{Caller, Dealt}
 use Rattle.report_rules.specs.Faults.{IsLoadFault, Setting, answer_line, keeps}
 use Rattle.report_rules.specs.Rules.{Line, caller_number}
-use Rattle.report_audit.specs.declared.records.RecordRead.{RecordRead}
+use Rattle.told_history.specs.declared.records.RecordRead.{RecordRead}
 use Rattle.report_audit.specs.declared.so_far.SoFar.{SoFar}
 use Rattle.report_audit.specs.declared.tally.Caller as code
-use Rattle.report_audit.specs.declared.told.Told.{Told}
+use Rattle.told_history.specs.declared.told.Told.{Told}
 use Rattle.report_audit.specs.BlockChecks.{AreLoaded, HasLoaded}
 use Rattle.report_audit.specs.LineChecks.{IsNextOf}
-use Rattle.report_audit.specs.Reads as reads
+use Rattle.told_history.specs.Reads as reads
 use Rattle.report_audit.specs.SoFars.{IsSoFar}
 use Rattle.report_audit.specs.Tallied.{most, owns}
 use Rattle.report_audit.proofs.Carrying.{most_none, most_one}
@@ -33,10 +33,6 @@ pub some_none : {X : Type 0} (x : X) → None ≡ Some x → ⊥
 some_none x same = absurd cc
 
 -- ---- lists
-
-pub length_map : {X Y : Type 0} (f : X → Y) (xs : List X) → length (map f xs) ≡ length xs
-length_map f [] = refl
-length_map f (x ∷ xs) = ap suc (length_map f xs)
 
 no_split : {X : Type 0} (first : List X) (x : X) (rest : List X) → [] ≡ first ++ x ∷ rest → ⊥
 no_split [] x rest same = absurd cc

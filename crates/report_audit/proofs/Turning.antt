@@ -3,7 +3,7 @@ use Rattle.std.proofs.Common.{◌≡◌, ◌⊎◌, inl, inr, ℕ, zero, suc, �
 use Rattle.std.specs.Prelude.{Option, Some, None, option_map, slice_get, slice_index_or}
 use Rattle.std.specs.List.{AllZip, flat_map}
 use Rattle.std.proofs.lemmas.Grind.{flat_map-append}
-use Rattle.std.proofs.lemmas.List.{length_push}
+use Rattle.std.proofs.lemmas.List.{length-map, length_push}
 use Rattle.std.proofs.lemmas.List.Concat.{flat_map-cons}
 use Rattle.std.proofs.lemmas.List.Elements.{All-nil}
 use Rattle.std.proofs.lemmas.Option.{slice_get-map, slice_get_past, slice_get_read, slice_get-get_or}
@@ -17,18 +17,18 @@ use Rattle.report_rules.specs.Faults.{AreKept, IsBlockFault, Setting}
 use Rattle.report_rules.specs.Reports.{Done, IsByItsFile, done_lines}
 use Rattle.report_rules.specs.Rules.{Line}
 use Rattle.report_rules.proofs.Pushed.{kept_more}
-use Rattle.report_audit.specs.declared.jobs.LaidJob.{LaidJob}
-use Rattle.report_audit.specs.declared.reads.JobRead.{JobRead}
+use Rattle.told_history.specs.declared.jobs.LaidJob.{LaidJob}
+use Rattle.told_history.specs.declared.reads.JobRead.{JobRead}
 use Rattle.report_audit.specs.declared.so_far.SoFar.{SoFar}
 use Rattle.report_audit.specs.declared.tally.Caller as code
-use Rattle.report_audit.specs.declared.told.Told.{Told}
+use Rattle.told_history.specs.declared.told.Told.{Told}
 use Rattle.report_audit.specs.declared.turns.Turns.{Turns}
 use Rattle.report_audit.specs.BlockChecks.{AreTurnsOf, HasKept, IsFaultAfter, IsKeptBlock, IsTurnOf}
 use Rattle.report_audit.specs.Callers as callers
 use Rattle.report_audit.specs.LineChecks.{IsNextOf}
-use Rattle.report_audit.specs.Reads.{IsReadOf}
+use Rattle.told_history.specs.LaidJobs.{dealt_by}
+use Rattle.told_history.specs.Reads.{IsReadOf}
 use Rattle.report_audit.specs.SoFars.{IsSoFar}
-use Rattle.report_audit.proofs.LoadMore.{length_map}
 
 -- ---- the groups of the jobs rise
 
@@ -87,12 +87,12 @@ next_group shape script k one other at next = rises_next 1 (dealt shape 1 script
 -- ---- the job at an index
 
 pub count_dealt : (told : Told) (turns : Turns) (script : List Group) (s : Setting) → AreTurnsOf told turns script s → length (dealt s.shape 1 script) ≡ length turns.jobs.now
-count_dealt told turns script s are = ap length (sym are.jobs_are) ∙ length_map (callers.dealt_by s.shape) turns.jobs.now
+count_dealt told turns script s are = ap length (sym are.jobs_are) ∙ length-map turns.jobs.now (dealt_by s.shape)
 
 pub job_at : (told : Told) (turns : Turns) (script : List Group) (s : Setting) (index : ℕ) (laid : LaidJob) → AreTurnsOf told turns script s → slice_get turns.jobs.now index ≡ Some laid
-    → slice_get (dealt s.shape 1 script) index ≡ Some (callers.dealt_by s.shape laid)
+    → slice_get (dealt s.shape 1 script) index ≡ Some (dealt_by s.shape laid)
 job_at told turns script s index laid are at =
-    ap (λ (l : List Dealt). slice_get l index) (sym are.jobs_are) ∙ slice_get-map (callers.dealt_by s.shape) turns.jobs.now index ∙ ap (option_map (callers.dealt_by s.shape)) at
+    ap (λ (l : List Dealt). slice_get l index) (sym are.jobs_are) ∙ slice_get-map (dealt_by s.shape) turns.jobs.now index ∙ ap (option_map (dealt_by s.shape)) at
 
 zip_at : {X Y : Type 0} (R : X → Y → Type 0) (xs : List X) (ys : List Y) (k : ℕ) (x : X) (y : Y) → AllZip R xs ys → slice_get xs k ≡ Some x → slice_get ys k ≡ Some y → R x y
 zip_at R [] ys k x y all left right = absurd cc
@@ -114,7 +114,7 @@ pub turn_at : (told : Told) (turns : Turns) (script : List Group) (s : Setting) 
     → slice_get turns.jobs.now index ≡ Some laid → slice_get turns.reads.now index ≡ Some read → (has : HasKept told old s (dealt s.shape 1 script) blocks index)
     → ((lines : List Line) → IsSoFar lines old → IsSoFar lines new) → (old.tally.group ≤ laid.group → new.tally.group ≡ laid.group) → length new.taken.items ≡ length old.taken.items
     → callers.caller_of caller ≡ caller_in_turn turns.shape laid.loads laid.searches laid.job.now.order
-    → IsTurnOf told new caller read s (flat_map done_lines has.done) (callers.dealt_by s.shape laid)
+    → IsTurnOf told new caller read s (flat_map done_lines has.done) (dealt_by s.shape laid)
 turn_at told turns script s index laid read old new caller blocks are at read_at has lines group long caller_is = record {
   read_is = zip_at (IsReadOf s.files) turns.jobs.now turns.reads.now index laid read are.reads_are at read_at;
   next = record {
@@ -123,7 +123,7 @@ turn_at told turns script s index laid read old new caller blocks are at read_at
     lines = lines (flat_map done_lines has.done) has.lines;
     long = long ∙ has.long;
     caller_is = ap (λ (k : Shape). caller_in_turn k laid.loads laid.searches laid.job.now.order) are.shape_is ∙ sym caller_is;
-    group_is = sym (group (has.group_is (callers.dealt_by s.shape laid) (job_at told turns script s index laid are at)));
+    group_is = sym (group (has.group_is (dealt_by s.shape laid) (job_at told turns script s index laid are at)));
   };
 }
 
@@ -134,9 +134,9 @@ whole_lines done one = flat_map-append done_lines done (one ∷ []) ∙ ap (λ (
 
 pub kept_at : (told : Told) (turns : Turns) (script : List Group) (s : Setting) (index : ℕ) (laid : LaidJob) (old new : SoFar) (blocks : List Block) (here : Block) → AreTurnsOf told turns script s
     → slice_get turns.jobs.now index ≡ Some laid → slice_get blocks index ≡ Some here → (has : HasKept told old s (dealt s.shape 1 script) blocks index)
-    → IsKeptBlock told new s (flat_map done_lines has.done) (callers.dealt_by s.shape laid) here → HasKept told new s (dealt s.shape 1 script) blocks (index + 1)
+    → IsKeptBlock told new s (flat_map done_lines has.done) (dealt_by s.shape laid) here → HasKept told new s (dealt s.shape 1 script) blocks (index + 1)
 kept_at told turns script s index laid old new blocks here are at block_at has is =
-    let one : Done = record { dealt = callers.dealt_by s.shape laid; answer = is.answer } in
+    let one : Done = record { dealt = dealt_by s.shape laid; answer = is.answer } in
     let dealt_at = job_at told turns script s index laid are at in
     record {
       done = has.done ++ one ∷ [];
@@ -146,14 +146,14 @@ kept_at told turns script s index laid old new blocks here are at block_at has i
       lines = subst (λ (l : List Line). IsSoFar l new) (sym (whole_lines has.done one)) is.lines;
       long = is.long;
       group_is = λ other other_at.
-          let later = next_group s.shape script index (callers.dealt_by s.shape laid) other dealt_at other_at in
+          let later = next_group s.shape script index (dealt_by s.shape laid) other dealt_at other_at in
           let same = is.group_is in
           omega (arith, later, same);
     }
 
 pub fault_at : (told : Told) (turns : Turns) (script : List Group) (s : Setting) (index offset : ℕ) (laid : LaidJob) (so_far : SoFar) (blocks : List Block) (here : Block) → AreTurnsOf told turns script s
     → slice_get turns.jobs.now index ≡ Some laid → slice_get blocks index ≡ Some here → (has : HasKept told so_far s (dealt s.shape 1 script) blocks index)
-    → IsBlockFault s (flat_map done_lines has.done) (Some (callers.dealt_by s.shape laid)) (Some here) offset → IsFaultAfter s (dealt s.shape 1 script) blocks index offset
+    → IsBlockFault s (flat_map done_lines has.done) (Some (dealt_by s.shape laid)) (Some here) offset → IsFaultAfter s (dealt s.shape 1 script) blocks index offset
 fault_at told turns script s index offset laid so_far blocks here are at block_at has is = record {
   done = has.done;
   count_is = has.count_is;

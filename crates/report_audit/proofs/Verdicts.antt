@@ -14,18 +14,18 @@ use Rattle.report_text.specs.declared.report.Block.{Block}
 use Rattle.report_text.specs.declared.report.Report.{Report}
 use Rattle.report_rules.specs.Dealing.{Dealt, dealt}
 use Rattle.report_rules.specs.Faults.{AreNamed, IsEventFault, IsFirstFault, IsLogUpTo, IsRuleFault, IsTold, IsUnnamed, Setting, line_after, line_of_event, line_of_log, setting_of, told_from}
-use Rattle.report_audit.specs.declared.jobs.LaidJob.{LaidJob}
-use Rattle.report_audit.specs.declared.names.Namer.{Namer}
-use Rattle.report_audit.specs.declared.reads.JobRead.{JobRead}
-use Rattle.report_audit.specs.declared.told.Told.{Told}
+use Rattle.told_history.specs.declared.jobs.LaidJob.{LaidJob}
+use Rattle.told_history.specs.declared.names.Namer.{Namer}
+use Rattle.told_history.specs.declared.reads.JobRead.{JobRead}
+use Rattle.told_history.specs.declared.told.Told.{Told}
 use Rattle.report_audit.specs.declared.turns.Turns.{Turns}
 use Rattle.report_audit.specs.Audits.{IsCase}
 use Rattle.report_audit.specs.BlockChecks.{AreTurnsOf, IsAllKept}
-use Rattle.report_audit.specs.Callers.{dealt_by}
-use Rattle.report_audit.specs.Logs.{IsSoundLog}
-use Rattle.report_audit.specs.Named.{IsTable}
-use Rattle.report_audit.specs.Reads.{IsReadOf}
-use Rattle.report_audit.proofs.LogChecks.{length_told}
+use Rattle.told_history.specs.LaidJobs.{dealt_by}
+use Rattle.told_history.specs.Logs.{IsSoundLog}
+use Rattle.told_history.specs.Named.{IsTable}
+use Rattle.told_history.specs.Reads.{IsReadOf}
+use Rattle.told_history.proofs.LogChecks.{length_told}
 
 abbrev pub history_of : (script : List Group) (files : List (ℕ × List ℕ)) (report : Report) (jobs : List LaidJob) (reads : List JobRead) (table : List Namer) → IsCase script files report jobs reads table → List Event
 history_of script files report jobs reads table case = told_from case.named 1 report.events

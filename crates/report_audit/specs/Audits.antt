@@ -12,12 +12,12 @@ use Rattle.report_rules.specs.Faults.{AreNamed, IsFirstFault, line_of_event}
 use Rattle.report_rules.specs.Reports.{IsReport}
 use Rattle.report_audit.specs.declared.verdict.Verdict.{Verdict}
 use Rattle.report_audit.specs.declared.verdict.Verdict.TheVariants.{Holds, Differs}
-use Rattle.report_audit.specs.declared.jobs.LaidJob.{LaidJob}
-use Rattle.report_audit.specs.declared.names.Namer.{Namer}
-use Rattle.report_audit.specs.declared.reads.JobRead.{JobRead}
-use Rattle.report_audit.specs.Callers.{dealt_by, searches_of}
-use Rattle.report_audit.specs.Named.{IsTable}
-use Rattle.report_audit.specs.Reads.{HasItsFile, IsReadOf}
+use Rattle.told_history.specs.declared.jobs.LaidJob.{LaidJob}
+use Rattle.told_history.specs.declared.names.Namer.{Namer}
+use Rattle.told_history.specs.declared.reads.JobRead.{JobRead}
+use Rattle.told_history.specs.LaidJobs.{dealt_by, searches_of}
+use Rattle.told_history.specs.Named.{IsTable}
+use Rattle.told_history.specs.Reads.{HasItsFile, IsReadOf}
 
 abbrev pub jobs_in : List Group → List Job
 jobs_in script = flat_map (λ group. group.jobs) script

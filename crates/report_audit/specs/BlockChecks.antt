@@ -18,17 +18,17 @@ use Rattle.report_rules.specs.Dealing.{Dealt, dealt}
 use Rattle.report_rules.specs.Faults.{AreKept, IsBlockFault, IsBlockFor, IsLoadFault, Setting, answer_line, keeps, names, own_budget}
 use Rattle.report_rules.specs.Reports.{Done, IsByItsFile, done_lines}
 use Rattle.report_rules.specs.Rules.{Line}
-use Rattle.report_audit.specs.declared.reads.JobRead.{JobRead}
-use Rattle.report_audit.specs.declared.reads.JobRead.TheVariants.{Records, Asked, Nothing}
+use Rattle.told_history.specs.declared.reads.JobRead.{JobRead}
+use Rattle.told_history.specs.declared.reads.JobRead.TheVariants.{Records, Asked, Nothing}
 use Rattle.report_audit.specs.declared.so_far.SoFar.{SoFar}
 use Rattle.report_audit.specs.declared.tally.Caller.{Caller}
-use Rattle.report_audit.specs.declared.told.Told.{Told}
+use Rattle.told_history.specs.declared.told.Told.{Told}
 use Rattle.report_audit.specs.declared.turns.Turns.{Turns}
-use Rattle.report_audit.specs.Callers.{dealt_by}
+use Rattle.told_history.specs.LaidJobs.{dealt_by}
 use Rattle.report_audit.specs.LineChecks.{IsNextOf}
-use Rattle.report_audit.specs.Reads.{IsReadFor, IsReadOf}
+use Rattle.told_history.specs.Reads.{IsReadFor, IsReadOf}
 use Rattle.report_audit.specs.SoFars.{IsSoFar}
-use Rattle.report_audit.specs.Telling.{Tells}
+use Rattle.told_history.specs.Telling.{Tells}
 
 -- ---- the lines of a load
 

@@ -1,11 +1,6 @@
-pub mod Logs
 pub mod Callers
 pub mod Tallied
-pub mod Reads
-pub mod Named
-pub mod Telling
 pub mod Audits
 pub mod SoFars
 pub mod LineChecks
 pub mod BlockChecks
-pub mod Weighing

@@ -6,14 +6,14 @@ use Rattle.report_rules.specs.Answers.{Fate, published, no_room, no_page, chain_
 use Rattle.report_rules.specs.Dealing.{Dealt}
 use Rattle.report_rules.specs.Faults.{Setting}
 use Rattle.report_rules.specs.Rules.{Line}
-use Rattle.report_audit.specs.declared.records.RecordRead.{RecordRead}
-use Rattle.report_audit.specs.declared.records.RecordRead.TheVariants as read
+use Rattle.told_history.specs.declared.records.RecordRead.{RecordRead}
+use Rattle.told_history.specs.declared.records.RecordRead.TheVariants as read
 use Rattle.report_audit.specs.declared.so_far.SoFar.{SoFar}
 use Rattle.report_audit.specs.declared.tally.Caller.{Caller}
-use Rattle.report_audit.specs.declared.told.Told.{Told}
+use Rattle.told_history.specs.declared.told.Told.{Told}
 use Rattle.report_audit.specs.Callers.{caller_of}
 use Rattle.report_audit.specs.SoFars.{IsSoFar}
-use Rattle.report_audit.specs.Telling.{Tells}
+use Rattle.told_history.specs.Telling.{Tells}
 
 -- what this job's next line is checked by: the told history, and what the lines before it carry
 pub record IsNextOf (told : Told) (so_far : SoFar) (caller : Caller) (s : Setting) (earlier : List Line) (one : Dealt) : Type 0 where

@@ -8,16 +8,11 @@ ghost use Rattle.report_rules.specs.Faults.{IsFirstFault, IsRuleFault, IsUnnamed
 ghost use Rattle.report_rules.specs.Reports.{IsReport};
 ghost use Rattle.report_audit.specs.Audits.{IsCase, IsVerdict, MayBeAudited};
 ghost use Rattle.report_audit.specs.BlockChecks.{AreTurnsOf, IsAllKept};
-ghost use Rattle.report_audit.specs.Callers.{job_of, searches_of};
+ghost use Rattle.told_history.specs.LaidJobs.{job_of, searches_of};
 ghost use Rattle.report_audit.specs.SoFars.{IsFree};
-ghost use Rattle.report_audit.specs.Telling.{IsMarkedNamer, IsWhole};
+ghost use Rattle.told_history.specs.Telling.{IsMarkedNamer, IsWhole};
 
-use crate::jobs::{LaidJob, lay_out};
-use crate::log::{BrokenEvent, first_broken};
-use crate::names::{Namer, name_events};
-use crate::reads::{JobRead, read_jobs};
 use crate::so_far::SoFar;
-use crate::told::Told;
 use crate::turns::{Turns, line_after, take_blocks};
 use crate::verdict::Verdict;
 use htss_defs::OutOfMemory;
@@ -25,6 +20,9 @@ use report_rules::law_of_reports;
 use report_text::Report;
 use script_text::{Files, Job, Order, Script};
 use std::alloc::Global;
+use told_history::{
+    BrokenEvent, JobRead, LaidJob, Namer, Told, first_broken, lay_out, name_events, read_jobs,
+};
 
 /// Whether a report is one of its own log for the script and the files of its jobs, or the first line at fault.
 pub fn audit_report(

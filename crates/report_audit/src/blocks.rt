@@ -4,21 +4,19 @@ ghost use Rattle.report_rules.specs.Faults.{Setting, own_budget};
 ghost use Rattle.report_audit.specs.BlockChecks.{IsFaultyTurn, IsFaultyWithdrawal, IsKeptTurn, IsKeptWithdrawal};
 ghost use Rattle.report_audit.specs.Callers.{caller_of};
 ghost use Rattle.report_audit.specs.Tallied.{IsCaller};
-ghost use Rattle.report_audit.specs.Telling.{IsWhole};
+ghost use Rattle.told_history.specs.Telling.{IsWhole};
 
 use crate::carried::carried_by_withdrawal;
 use crate::loads::take_lines;
-use crate::names::{is_block_for, records_of};
-use crate::reads::JobRead;
 use crate::searches::take_search;
 use crate::so_far::SoFar;
 use crate::tally::Caller;
-use crate::told::Told;
 use crate::turns::Turns;
 use crate::withdrawals::keeps_withdrawal;
 use htss_defs::{OutOfMemory, Shape};
 use report_text::{Block, WithdrawLine};
 use script_text::{Job, Order};
+use told_history::{JobRead, Told, is_block_for, records_of};
 
 /// Notes the lines of the block at the place of a job; or gives the first at fault, by its place after the block's first line.
 pub fn take_block(

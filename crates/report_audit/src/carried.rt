@@ -8,10 +8,10 @@ ghost use Rattle.report_rules.specs.Rules.{block_words};
 ghost use Rattle.report_audit.specs.LineChecks.{answer_to, fate_of};
 ghost use Rattle.report_audit.specs.Tallied.{IsCarried};
 
-use crate::records::RecordRead;
 use crate::records_kept::words_of;
 use crate::tally::Carried;
 use report_text::{LoadLine, WithdrawLine};
+use told_history::RecordRead;
 
 /// What a line carries that has no number, front or words.
 pub fn nothing_carried() -> Carried

@@ -7,18 +7,17 @@ ghost use Rattle.report_rules.specs.Faults.{IsLoadFault, Setting};
 ghost use Rattle.report_rules.specs.Rules.{Line};
 ghost use Rattle.report_audit.specs.BlockChecks.{AreKeptLines, HasLoaded, IsFaultyLine};
 ghost use Rattle.report_audit.specs.Callers.{caller_of};
-ghost use Rattle.report_audit.specs.Reads.{outcome_of};
+ghost use Rattle.told_history.specs.Reads.{outcome_of};
 ghost use Rattle.report_audit.specs.Tallied.{IsCaller};
-ghost use Rattle.report_audit.specs.Telling.{IsWhole};
+ghost use Rattle.told_history.specs.Telling.{IsWhole};
 
 use crate::carried::carried_by_record;
-use crate::records::RecordRead;
 use crate::records_kept::keeps_record;
 use crate::so_far::SoFar;
 use crate::tally::Caller;
-use crate::told::Told;
 use htss_defs::Shape;
 use report_text::LoadLine;
+use told_history::{RecordRead, Told};
 
 /// Notes the lines of a load; or gives the first at fault, by its place after the first line of the block.
 pub fn take_lines(

@@ -7,17 +7,15 @@ ghost use Rattle.report_rules.specs.Faults.{Setting, answer_line, keeps};
 ghost use Rattle.report_rules.specs.Rules.{Line, block_words};
 ghost use Rattle.report_audit.specs.Callers.{caller_of};
 ghost use Rattle.report_audit.specs.LineChecks.{IsNextOf, answer_to, fate_of};
-ghost use Rattle.report_audit.specs.Reads as reads;
+ghost use Rattle.told_history.specs.Reads as reads;
 ghost use Rattle.report_audit.specs.Tallied.{IsCaller};
-ghost use Rattle.report_audit.specs.Telling.{IsWhole};
+ghost use Rattle.told_history.specs.Telling.{IsWhole};
 
-use crate::events::is_publication;
-use crate::records::RecordRead;
 use crate::so_far::SoFar;
 use crate::tally::Caller;
-use crate::told::Told;
 use htss_defs::{Mol, Name, Shape};
 use report_text::LoadLine;
+use told_history::{RecordRead, Told, is_publication};
 
 /// Whether the line is one of the record at this place that keeps its rule, as the caller's next.
 pub fn keeps_record(

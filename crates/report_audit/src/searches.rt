@@ -9,19 +9,16 @@ ghost use Rattle.report_audit.specs.BlockChecks.{IsFaultySearch, IsKeptSearch, I
 ghost use Rattle.report_audit.specs.Callers.{caller_of};
 ghost use Rattle.report_audit.specs.LineChecks.{IsNextOf};
 ghost use Rattle.report_audit.specs.Tallied.{IsCaller};
-ghost use Rattle.report_audit.specs.Telling.{IsWhole};
-ghost use Rattle.report_audit.specs.declared.told.Told.{Told};
+ghost use Rattle.told_history.specs.Telling.{IsWhole};
+ghost use Rattle.told_history.specs.declared.told.Told.{Told};
 
 use crate::carried::{carried_by_front, nothing_carried};
-use crate::hits::check_hits;
-use crate::over::check_over;
-use crate::reads::JobRead;
 use crate::so_far::SoFar;
 use crate::tally::Caller;
-use crate::told::Told;
 use htss_defs::{Hit, OutOfMemory, Query};
 use report_text::SearchLine;
 use std::alloc::Global;
+use told_history::{JobRead, Told, check_hits, check_over};
 
 /// Notes the line of a search whose lines keep their rules; or gives the first at fault, by its place after the block's first line.
 pub fn take_search(

@@ -5,17 +5,16 @@ ghost use Rattle.script_text.specs.declared.script.Group.{Group};
 ghost use Rattle.report_rules.specs.Dealing.{dealt};
 ghost use Rattle.report_rules.specs.Faults.{IsRuleFault, Setting, block_length, line_after, search_length};
 ghost use Rattle.report_audit.specs.BlockChecks.{AreTurnsOf, HasKept, IsFaultyNext, IsKeptNext};
-ghost use Rattle.report_audit.specs.Telling.{IsWhole};
+ghost use Rattle.told_history.specs.Telling.{IsWhole};
 
 use crate::blocks::take_block;
-use crate::jobs::{LaidJob, caller_for};
+use crate::callers::caller_for;
 use crate::loads::larger;
-use crate::reads::JobRead;
 use crate::so_far::SoFar;
-use crate::told::Told;
 use htss_defs::{OutOfMemory, Shape};
 use report_text::{Block, SearchLine};
 use std::alloc::Global;
+use told_history::{JobRead, LaidJob, Told};
 
 /// The jobs of a script with what their files were read as, and the blocks of a report, its shape and its budget.
 #[derive(Clone, Copy)]

@@ -8,14 +8,13 @@ ghost use Rattle.report_rules.specs.Rules.{Line};
 ghost use Rattle.report_audit.specs.Callers.{caller_of};
 ghost use Rattle.report_audit.specs.LineChecks.{IsNextOf};
 ghost use Rattle.report_audit.specs.Tallied.{IsCaller};
-ghost use Rattle.report_audit.specs.Telling.{IsWhole};
+ghost use Rattle.told_history.specs.Telling.{IsWhole};
 
-use crate::events::{is_published, is_withdrawal, is_withdrawn, is_withdrawn_by};
 use crate::so_far::SoFar;
 use crate::tally::Caller;
-use crate::told::Told;
 use htss_defs::Shape;
 use report_text::WithdrawLine;
+use told_history::{Told, is_published, is_withdrawal, is_withdrawn, is_withdrawn_by};
 
 /// Whether the answer to the caller's next withdrawal keeps its rule.
 pub fn keeps_withdrawal(

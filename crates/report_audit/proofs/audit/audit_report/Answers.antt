@@ -1,16 +1,16 @@
 use Rattle.std.proofs.Common.{◌≡◌, ℕ, ◌∙◌, List, All, length, map, ap, sym, subst, refl, arith}
 use Rattle.script_text.specs.declared.script.Job.{Job}
 use Rattle.report_rules.specs.Dealing.{dealt}
-use Rattle.report_audit.specs.declared.jobs.LaidJob.{LaidJob}
+use Rattle.told_history.specs.declared.jobs.LaidJob.{LaidJob}
 use Rattle.report_audit.specs.Audits.{jobs_in}
-use Rattle.report_audit.specs.Callers.{job_of, searches_of}
-use Rattle.report_audit.specs.Reads.{HasItsFile, IsReadOf, IsThere}
+use Rattle.told_history.specs.LaidJobs.{job_of, searches_of}
+use Rattle.told_history.specs.Reads.{HasItsFile, IsReadOf, IsThere}
 use Rattle.report_audit.proofs.Auditing.{each_job, jobs_are, searches_are}
 use Rattle.report_audit.proofs.Founds.{none_at, some_at}
-use Rattle.report_audit.proofs.LoadMore.{length_map}
-use Rattle.report_audit.proofs.Markings.{table_marked}
+use Rattle.std.proofs.lemmas.List.{length-map}
+use Rattle.told_history.proofs.Markings.{table_marked}
 use Rattle.report_audit.proofs.Verdicts.{case_of}
-use Rattle.report_audit.proofs.Zips.{zip_long}
+use Rattle.told_history.proofs.Zips.{zip_long}
 use Rattle.report_audit.proofs.audit.audit_report.Goals as goal
 
 pub read_jobs-requires : goal.read_jobs-requires
@@ -41,7 +41,7 @@ returns-in-Some c =
 pub searches_among-requires : goal.searches_among-requires
 searches_among-requires c =
     let laid = jobs_are c.args.report.now.shape c.in_ok-jobs.jobs.items c.as_slice.result.now (c.in_ok-jobs.ensures c.args.report.now.shape) ∙ ap jobs_in c.as_slice.ensures in
-    omega (arith, ap length c.deref-7.ensures.value, length_map job_of c.in_ok-jobs.jobs.items, ap length laid, c.requires.jobs)
+    omega (arith, ap length c.deref-7.ensures.value, length-map c.in_ok-jobs.jobs.items job_of, ap length laid, c.requires.jobs)
 
 pub returns : goal.returns
 returns c =

@@ -5,14 +5,14 @@ use Rattle.script_text.specs.declared.script.Group.{Group}
 use Rattle.report_text.specs.Values.{IsInGrammar}
 use Rattle.report_rules.specs.Dealing.{dealt}
 use Rattle.report_rules.specs.Reports.{IsReport}
-use Rattle.report_audit.specs.declared.told.Told.{Told}
+use Rattle.told_history.specs.declared.told.Told.{Told}
 use Rattle.report_audit.specs.declared.turns.Turns.{Turns}
 use Rattle.report_audit.specs.Audits.{IsCase}
 use Rattle.report_rules.specs.Faults.{IsEventFault, IsFirstFault, IsRuleFault, IsUnnamed, line_after, line_of_event, setting_of, told_from}
 use Rattle.report_audit.specs.BlockChecks.{IsAllKept}
-use Rattle.report_audit.specs.Logs.{IsSoundLog}
+use Rattle.told_history.specs.Logs.{IsSoundLog}
 use Rattle.report_audit.proofs.Founds.{err_at, ok_at, ok_none, ok_some}
-use Rattle.report_audit.proofs.LogChecks.{length_told}
+use Rattle.told_history.proofs.LogChecks.{length_told}
 use Rattle.report_audit.proofs.Verdicts.{AreAllKeptIn, IsFoundIn, event_fault, is_told, later_fault, length_fault, outside_from, shape_fault, turns_of, whole_log, within_from}
 use Rattle.report_audit.proofs.audit.first_fault.Goals as goal
 

@@ -4,7 +4,7 @@ use Rattle.report_audit.specs.BlockChecks.{HasKept}
 use Rattle.report_audit.specs.SoFars.{IsFree}
 use Rattle.report_audit.proofs.Auditing.{all_kept, unnamed, unsaturated}
 use Rattle.report_audit.proofs.Founds.{none_at, some_at}
-use Rattle.report_audit.proofs.TellEvents.{told_length}
+use Rattle.told_history.proofs.TellEvents.{told_length}
 use Rattle.report_audit.proofs.Turning.{count_dealt, kept_none}
 use Rattle.report_audit.proofs.audit.first_later_fault.Goals as goal
 

@@ -1,5 +1,5 @@
 use Rattle.std.proofs.Common.{◌≡◌, ◌≤◌, map, take}
-use Rattle.report_audit.specs.Callers.{job_of, searches_of}
+use Rattle.told_history.specs.LaidJobs.{job_of, searches_of}
 use Rattle.report_audit.proofs.audit.searches_among.Given as goal
 
 abbrev pub invariant-loop-laid : goal.invariant-loop-laid

@@ -8,9 +8,9 @@ use Rattle.report_text.specs.declared.report.LoadLine.{LoadLine}
 use Rattle.report_text.specs.declared.report.Block.TheVariants as block
 use Rattle.report_rules.specs.Faults.{IsBlockFault, IsBlockFor, own_budget}
 use Rattle.report_audit.specs.BlockChecks.{AreKeptLines, IsFaultyLine, IsFaultySearch, IsFaultyTurn, IsFaultyWithdrawal, IsKeptBlock, IsKeptSearch, IsKeptTurn, IsKeptWithdrawal}
-use Rattle.report_audit.specs.Named.{records_in}
-use Rattle.report_audit.specs.Reads.{outcome_of}
-use Rattle.report_audit.specs.declared.records.RecordRead.{RecordRead}
+use Rattle.told_history.specs.Named.{records_in}
+use Rattle.told_history.specs.Reads.{outcome_of}
+use Rattle.told_history.specs.declared.records.RecordRead.{RecordRead}
 use Rattle.report_audit.proofs.BlockKept.{kept_load, load_of}
 use Rattle.report_audit.proofs.Founds.{none_map, some_map, ok_none, ok_some}
 use Rattle.report_audit.proofs.blocks.take_block.Goals as goal

@@ -1,6 +1,6 @@
 use Rattle.std.proofs.Common.{◌∙◌, sym, subst}
 use Rattle.report_rules.specs.Faults.{answer_line}
-use Rattle.report_audit.specs.declared.records.RecordRead.{RecordRead}
+use Rattle.told_history.specs.declared.records.RecordRead.{RecordRead}
 use Rattle.report_audit.specs.LineChecks.{answer_to}
 use Rattle.report_audit.specs.Tallied.{IsCarried}
 use Rattle.report_audit.proofs.carried.carried_by_record.Goals as goal

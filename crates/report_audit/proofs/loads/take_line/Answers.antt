@@ -4,7 +4,7 @@ use Rattle.std.proofs.lemmas.Option.{slice_get-map, slice_get_read}
 use Rattle.report_rules.specs.Answers.{to_record}
 use Rattle.report_rules.specs.Faults.{answer_line}
 use Rattle.report_audit.specs.LineChecks.{answer_to}
-use Rattle.report_audit.specs.Reads as reads
+use Rattle.told_history.specs.Reads as reads
 use Rattle.report_audit.proofs.Keeping.{as_long, outcome_same}
 use Rattle.report_audit.proofs.LoadMore.{has_loaded_more, next_noted, own_within}
 use Rattle.report_audit.proofs.loads.take_line.Goals as goal

@@ -1,7 +1,8 @@
 use Rattle.std.proofs.Common.{◌≡◌, ℕ, ◌≤◌, ◌∙◌, length, map, max, subst, sym, arith}
 use Rattle.report_audit.specs.BlockChecks.{HasLoaded}
-use Rattle.report_audit.specs.Reads.{outcome_of}
-use Rattle.report_audit.proofs.LoadMore.{has_loaded_none, length_map}
+use Rattle.told_history.specs.Reads.{outcome_of}
+use Rattle.std.proofs.lemmas.List.{length-map}
+use Rattle.report_audit.proofs.LoadMore.{has_loaded_none}
 use Rattle.report_audit.proofs.loads.take_lines.Goals as goal
 
 pub loop-index-init : goal.loop-index-init
@@ -23,5 +24,5 @@ returns-clause-kept c = λ s earlier one shape next.
     let most : max (length c.args.records.now) (length c.args.lines.now) ≤ c.loop-index.index = omega (arith, c.larger-count.ensures, c.loop-index-test.false) in
     let all : c.loop-index.index ≡ length c.args.records.now = grind (arith, most, records) in
     let whole : length c.args.lines.now ≡ length c.args.records.now = grind (arith, most, records, lines, all) in
-    let count = length_map outcome_of c.args.records.now in
+    let count = length-map c.args.records.now outcome_of in
     (subst (λ (n : ℕ). HasLoaded c.args.told.now c.loop-index.so_far c.args.caller s earlier one (map outcome_of c.args.records.now) c.args.lines.now n) (all ∙ sym count) has, whole ∙ sym count)

@@ -4,7 +4,7 @@ use Rattle.report_rules.specs.Faults.{Setting}
 use Rattle.report_rules.specs.Rules.{Line}
 use Rattle.report_audit.specs.BlockChecks.{HasLoaded}
 use Rattle.report_audit.specs.LineChecks.{IsNextOf}
-use Rattle.report_audit.specs.Reads.{outcome_of}
+use Rattle.told_history.specs.Reads.{outcome_of}
 use Rattle.report_audit.proofs.loads.take_lines.Given as goal
 
 abbrev pub invariant-loop-index : goal.invariant-loop-index

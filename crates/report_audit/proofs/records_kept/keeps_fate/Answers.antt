@@ -7,7 +7,7 @@ use Rattle.report_text.specs.declared.report.LoadLine.{LoadLine}
 use Rattle.report_rules.specs.Answers.{RecordAnswer, log_full, no_room, published, record_line, taken, to_record}
 use Rattle.report_rules.specs.Faults.{IsAsLogged, answer_line, keeps, line_by}
 use Rattle.report_rules.specs.Rules.{IsRoomLeft, caller_number}
-use Rattle.report_audit.specs.declared.records.RecordRead.{RecordRead}
+use Rattle.told_history.specs.declared.records.RecordRead.{RecordRead}
 use Rattle.report_audit.specs.LineChecks.{answer_to, fate_of}
 use Rattle.report_audit.proofs.Keeping.{answer_back, as_long, event_taken, is_next, keeps_publication}
 use Rattle.report_audit.proofs.records_kept.keeps_fate.Goals as goal

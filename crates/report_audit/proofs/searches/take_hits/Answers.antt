@@ -4,7 +4,7 @@ use Rattle.std.proofs.lemmas.Bool.{false≢true}
 use Rattle.htss_defs.specs.declared.history.Event.{Event}
 use Rattle.htss_defs.specs.Reply.{IsReply, found}
 use Rattle.reg_model.specs.Searches.{Counts}
-use Rattle.report_audit.specs.Telling.{Tells}
+use Rattle.told_history.specs.Telling.{Tells}
 use Rattle.report_text.specs.declared.report.SearchLine.TheVariants as search
 use Rattle.report_rules.specs.Answers.{hits_at, not_read, over_at, to_search}
 use Rattle.report_rules.specs.Faults.{IsHitFault, KeepsFront, line_by, own_budget}

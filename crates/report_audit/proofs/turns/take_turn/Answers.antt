@@ -4,7 +4,7 @@ use Rattle.std.specs.List.{flat_map}
 use Rattle.std.proofs.lemmas.Option.{slice_get_read}
 use Rattle.report_rules.specs.Reports.{done_lines}
 use Rattle.report_audit.specs.BlockChecks.{IsFaultyNext, IsFaultyTurn, IsKeptNext, IsKeptTurn}
-use Rattle.report_audit.specs.Callers as callers
+use Rattle.told_history.specs.LaidJobs.{dealt_by}
 use Rattle.report_audit.proofs.Founds.{ok_none, ok_some}
 use Rattle.report_audit.proofs.Turning.{fault_at, kept_at, turn_at}
 use Rattle.report_audit.proofs.turns.take_turn.Goals as goal
@@ -24,7 +24,7 @@ returns-clause-kept c =
       omega (arith, c.if-index-jobs.false),
       omega (arith, c.if-index-blocks.false),
       kept_at c.args.told.now c.args.turns.now script s c.args.index laid c.args.so_far.now c.take_block.new.so_far c.args.turns.now.blocks.now c.index-blocks-index.result are jobs_at blocks_at has
-          (kept s (flat_map done_lines has.done) (callers.dealt_by s.shape laid) are.shape_is are.budget_is refl turn),
+          (kept s (flat_map done_lines has.done) (dealt_by s.shape laid) are.shape_is are.budget_is refl turn),
     ))
     c.take_block.ensures.kept
 
@@ -41,5 +41,5 @@ returns-clause-fault c =
     let turn = turn_at c.args.told.now c.args.turns.now script s c.args.index laid c.index-reads-index.result c.args.so_far.now c.enter.new.self c.caller_for-caller.result c.args.turns.now.blocks.now are jobs_at reads_at has
     c.enter.ensures.lines c.enter.ensures.group c.enter.ensures.long c.caller_for-caller.ensures.is in
     fault_at c.args.told.now c.args.turns.now script s c.args.index offset laid c.args.so_far.now c.args.turns.now.blocks.now c.index-blocks-index.result are jobs_at blocks_at has
-    (fault s (flat_map done_lines has.done) (callers.dealt_by s.shape laid) are.shape_is are.budget_is refl turn))
+    (fault s (flat_map done_lines has.done) (dealt_by s.shape laid) are.shape_is are.budget_is refl turn))
     c.take_block.ensures.fault

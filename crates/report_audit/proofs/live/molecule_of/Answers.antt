@@ -1,8 +1,0 @@
-use Rattle.std.proofs.Common.{sym, subst}
-use Rattle.report_audit.specs.declared.names.Namer.{Namer}
-use Rattle.report_audit.specs.Named.{IsNamer}
-use Rattle.report_audit.proofs.LiveTold.{unnamed}
-use Rattle.report_audit.proofs.live.molecule_of.Goals as goal
-
-pub returns-in-Nobody-clause-mol : goal.returns-in-Nobody-clause-mol
-returns-in-Nobody-clause-mol c = λ named number is. sym (unnamed named number (subst (λ (n : Namer). IsNamer named number n) c.in-Nobody.is is))

@@ -1,7 +1,0 @@
-use Rattle.std.proofs.Common.{take}
-use Rattle.std.specs.List.{AllZip}
-use Rattle.report_audit.specs.Reads.{IsReadOf}
-use Rattle.report_audit.proofs.reads.read_jobs.Given as goal
-
-abbrev pub invariant-loop-laid : goal.invariant-loop-laid
-invariant-loop-laid l = AllZip (IsReadOf l.files) (take l.laid-index l.jobs) l.reads.items

@@ -1,0 +1,11 @@
+pub mod LogChecks
+pub mod Laying
+pub mod Zips
+pub mod Naming
+pub mod Namings
+pub mod Markings
+pub mod TellEvents
+pub mod OneScreened
+pub mod LiveTold
+pub mod Surveyed
+pub mod Weighed
