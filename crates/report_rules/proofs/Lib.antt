@@ -3,6 +3,7 @@ pub mod AskedAtoms
 pub mod InGrammar
 pub mod LineKinds
 pub mod OneQueries
+pub mod OneRising
 pub mod OneHits
 pub mod OneDone
 pub mod OneHistory
