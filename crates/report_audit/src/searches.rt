@@ -40,21 +40,15 @@ pub fn take_search(
         SearchLine::Hits {
             front,
             hits,
-            rows,
             records,
+            ..
         } => {
-            take_hits(
-                alloc,
-                told,
-                so_far,
-                caller,
-                budget,
-                read,
-                *front,
-                hits.as_slice(),
-                *rows,
-                *records,
-            )
+            let printed = PrintedHits {
+                front: *front,
+                hits: hits.as_slice(),
+                records: *records,
+            };
+            take_hits(alloc, told, so_far, caller, budget, read, printed)
         }
         SearchLine::OverBudget {
             front,
@@ -118,6 +112,14 @@ fn keeps_front(told: &Told<'_>, so_far: &SoFar, caller: Caller, front: u32) -> b
     so_far.tally.is_search_front(caller, front)
 }
 
+// What the lines of a search with hits say that an audit tests.
+#[derive(Clone, Copy)]
+struct PrintedHits<'a> {
+    front: u32,
+    hits: &'a [Hit],
+    records: u32,
+}
+
 // Notes the front of a search that has these hits and screened so many records.
 fn take_hits(
     alloc: Global,
@@ -126,28 +128,33 @@ fn take_hits(
     caller: Caller,
     budget: u64,
     read: &JobRead,
-    front: u32,
-    hits: &[Hit],
-    _rows: u64,
-    records: u32,
+    printed: PrintedHits<'_>,
 ) -> Result<Option<usize>, OutOfMemory>
     requires whole { IsWhole told.now }
     requires caller { IsCaller (caller_of caller) }
-    ensures kept { IfOk result (λ found. IfNone found
-        (IsKeptSearch told.now so_far.old so_far.new caller budget read.now (search.Hits front hits.now _rows records))) }
-    ensures fault { IfOk result (λ found. IfSome found (λ offset.
-        IsFaultySearch told.now so_far.old caller budget read.now (search.Hits front hits.now _rows records) offset)) }
+    ensures kept { (rows : ℕ) → IfOk result (λ found. IfNone found (IsKeptSearch told.now so_far.old so_far.new caller budget read.now
+        (search.Hits printed.entry.front printed.entry.hits.now rows printed.entry.records))) }
+    ensures fault { (rows : ℕ) → IfOk result (λ found. IfSome found (λ offset. IsFaultySearch told.now so_far.old caller budget read.now
+        (search.Hits printed.entry.front printed.entry.hits.now rows printed.entry.records) offset)) }
 {
     let Some(query) = query_of(read) else {
         return Ok(Some(0));
     };
-    if !keeps_front(told, so_far, caller, front) {
+    if !keeps_front(told, so_far, caller, printed.front) {
         return Ok(Some(0));
     }
-    if let Some(offset) = check_hits(alloc, told, query, budget, front, hits, records)? {
+    if let Some(offset) = check_hits(
+        alloc,
+        told,
+        query,
+        budget,
+        printed.front,
+        printed.hits,
+        printed.records,
+    )? {
         return Ok(Some(offset));
     }
-    so_far.note(caller, carried_by_front(front));
+    so_far.note(caller, carried_by_front(printed.front));
     Ok(None)
 }
 

@@ -14,11 +14,11 @@ returns-in-Refused-clause-fault c = subst (λ (a : SearchLine). IfSome c.take_re
 
 pub returns-in-Hits-clause-kept : goal.returns-in-Hits-clause-kept
 returns-in-Hits-clause-kept c = subst (λ (a : SearchLine). IfOk c.take_hits.result (λ found. IfNone found (IsKeptSearch c.args.told.now c.args.so_far.now c.take_hits.new.so_far c.args.caller c.args.budget c.args.read.now a))) (sym c.in-Hits.is)
-    (subst (λ (hs : List Hit). IfOk c.take_hits.result (λ found. IfNone found (IsKeptSearch c.args.told.now c.args.so_far.now c.take_hits.new.so_far c.args.caller c.args.budget c.args.read.now (search.Hits c.in-Hits.front hs c.in-Hits.rows c.in-Hits.records)))) c.as_slice.ensures c.take_hits.ensures.kept)
+    (subst (λ (hs : List Hit). IfOk c.take_hits.result (λ found. IfNone found (IsKeptSearch c.args.told.now c.args.so_far.now c.take_hits.new.so_far c.args.caller c.args.budget c.args.read.now (search.Hits c.in-Hits.front hs c.in-Hits.rows c.in-Hits.records)))) c.as_slice.ensures (c.take_hits.ensures.kept c.in-Hits.rows))
 
 pub returns-in-Hits-clause-fault : goal.returns-in-Hits-clause-fault
 returns-in-Hits-clause-fault c = subst (λ (a : SearchLine). IfOk c.take_hits.result (λ found. IfSome found (IsFaultySearch c.args.told.now c.args.so_far.now c.args.caller c.args.budget c.args.read.now a))) (sym c.in-Hits.is)
-    (subst (λ (hs : List Hit). IfOk c.take_hits.result (λ found. IfSome found (IsFaultySearch c.args.told.now c.args.so_far.now c.args.caller c.args.budget c.args.read.now (search.Hits c.in-Hits.front hs c.in-Hits.rows c.in-Hits.records)))) c.as_slice.ensures c.take_hits.ensures.fault)
+    (subst (λ (hs : List Hit). IfOk c.take_hits.result (λ found. IfSome found (IsFaultySearch c.args.told.now c.args.so_far.now c.args.caller c.args.budget c.args.read.now (search.Hits c.in-Hits.front hs c.in-Hits.rows c.in-Hits.records)))) c.as_slice.ensures (c.take_hits.ensures.fault c.in-Hits.rows))
 
 pub returns-in-OverBudget-clause-kept : goal.returns-in-OverBudget-clause-kept
 returns-in-OverBudget-clause-kept c = subst (λ (a : SearchLine). IfOk c.take_over.result (λ found. IfNone found (IsKeptSearch c.args.told.now c.args.so_far.now c.take_over.new.so_far c.args.caller c.args.budget c.args.read.now a))) (sym c.in-OverBudget.is) (c.take_over.ensures.kept)
