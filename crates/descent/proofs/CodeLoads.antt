@@ -1,6 +1,7 @@
 -- The loop over a row's codes, as the loads of a board tell it.
-use Rattle.std.proofs.Common.{◌≡◌, ℕ, sym, ap, ◌∙◌, subst}
-use Rattle.board_core.specs.Rows.{block_named}
+use Rattle.std.proofs.Common.{◌≡◌, ℕ, ◌<◌, ◌≤◌, sym, ap, ◌∙◌, subst}
+use Rattle.board_core.specs.Blocks.{atoms_in}
+use Rattle.board_core.specs.Rows.{block_named, atom_named}
 use Rattle.board_core.specs.Met.{row_named, HasHead}
 use Rattle.board_core.specs.After.{after_head, after_code}
 use Rattle.board_core.proofs.LoadMet.{head_here, head_stays}
@@ -25,5 +26,5 @@ module _ (row level word : ℕ) (d e : Seated) (after : e ≡ with_account d (af
   pub next_head : (head : ℕ) → HasHead d.account (block_named row) head → HasHead e.account (block_named row) head
   next_head head h = subst (λ (z : Seated). HasHead z.account (block_named row) head) (sym after) (head_stays d.account (block_named row) head (row_named row) level word h)
 
-  pub next_only : (c : Seated) → OnlyLoads c d → OnlyLoads c e
-  next_only c o = only_on c d e o (only_code d e (row_named row) level word after)
+  pub next_only : (c : Seated) (head : ℕ) → HasHead d.account (block_named row) head → (0 < atom_named row) × (atom_named row ≤ atoms_in head) → OnlyLoads c d → OnlyLoads c e
+  next_only c head h atom o = only_on c d e o (only_code d e (row_named row) level word (record { head = head; loaded = h; above = atom.0; most = atom.1 }) after)

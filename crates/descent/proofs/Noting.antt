@@ -1,5 +1,6 @@
 -- What a descent gave is true of each board that has the caller, and what the caller has once it is noted.
 use Rattle.std.proofs.Common.{◌≡◌, ℕ, zero, suc, ◌^◌, ◌<◌, ◌≤◌, List, [], ◌∷◌, ◌++◌, map, drop, length, sym, refl, ap, ◌∙◌, subst}
+use Rattle.std.proofs.lemmas.List.{append_cancel_left}
 use mathlib.Core.Option.{some, some-injective, some-ne-none}
 use lib.ListN.{get_elem?}
 use Rattle.htss_defs.specs.declared.shape.Shape.{Shape}
@@ -22,16 +23,16 @@ use Rattle.board_core.specs.Boards.{HasBoard, SomeBoard}
 use Rattle.board_core.specs.After.{after_answer}
 use Rattle.board_core.proofs.Everyone.{mine}
 use Rattle.board_core.proofs.OldMoved.{pin_here}
-use Rattle.board_core.proofs.RowFrame.{block_back, small_atom}
+use Rattle.board_core.proofs.RowFrame.{atom_back, block_back, small_atom}
 use Rattle.board_core.proofs.LoadSealed.{sealed_in_table}
 use Rattle.board.specs.Seated.{Seated, with_account}
 use Rattle.env_cover.specs.Reach.{CoversCode}
 use Rattle.descent.specs.Seats.{CodeLoad, Seat, load_of, seat_of, named}
 use Rattle.descent.specs.Different.{AreDifferent}
-use Rattle.descent.specs.Standing.{OnlyLoads}
+use Rattle.descent.specs.Standing.{HasAtom, OnlyLoads}
 use Rattle.descent.specs.Descended.{IsDescended}
 use Rattle.descent.specs.Answered.{HasSwept}
-use Rattle.descent.proofs.Standing.{entry_back}
+use Rattle.descent.proofs.Standing.{entry_back, loads_on}
 use Rattle.descent.proofs.Covering.{all_cover, covers_all}
 
 -- ---- rows by their entries
@@ -109,6 +110,24 @@ module _ (k : Shape) (need : Need) (c m : Seated) (given : List Row) (front : �
         subst (IsInTable k) block (sealed_in_table k p.regions vs l.row.block b.rule.seats b.rule.rooms.rooms code.sealed).0,
       )
 
+  -- the codes that were loaded since c
+  fresh_loads : (o : OnlyLoads c m) → map load_of o.codes ≡ d.loads
+  fresh_loads o = append_cancel_left (seat_of c.account).loads (map load_of o.codes) d.loads (sym (loads_on c.account.loads.codes o.codes) ∙ (sym (ap (map load_of) o.codes_are) ∙ d.loads_are))
+
+  row_atom : OnlyLoads c m → Each (HasAtom m.account) given
+  row_atom o j r there =
+      let t = entry_of_row j r there in
+      let loaded = d.loaded j t.0 t.1 in
+      let fresh = subst (In loaded.0) (sym (fresh_loads o)) loaded.1 in
+      let back = load_back o.codes fresh.0 loaded.0 fresh.1 in
+      let l : BoardLoad = back.0 in
+      let has = o.atoms fresh.0 l back.1 in
+      let small : l.row.atom < 2 ^ 10 = small_atom has.head l.row.atom has.most in
+      let entry : entry_word l.row ≡ t.0 = ap (λ (x : CodeLoad). x.row) back.2 ∙ loaded.2 in
+      let block : l.row.block ≡ r.block = sym (block_back l.row.block l.row.atom small) ∙ (ap block_named entry ∙ ap (λ (x : Row). x.block) t.2) in
+      let atom : l.row.atom ≡ r.atom = sym (atom_back l.row.block l.row.atom small) ∙ (ap atom_named entry ∙ ap (λ (x : Row). x.atom) t.2) in
+      subst (HasAtom m.account) (λ i. record { block = block i; atom = atom i }) has
+
 -- it was noted
 pub has_swept : (k : Shape) (need : Need) (c m d : Seated) (given : List Row) (p : Parts) (vs : List View) (b : HasBoard k p vs m.account) (count : ℕ) → c.account.tree.front ≤ p.log.front
     → OnlyLoads c m → d ≡ with_account m (after_answer m.account (Swept need m.account.tree.front given ∷ []))
@@ -124,8 +143,12 @@ has_swept k need c m d given p vs b count here only after done = record {
   rows = done.rows;
   known = λ j r there. let t = row_known k need c m given c.account.tree.front p vs b here count done j r there in
       (subst (λ (z : Seated). KnowsRow z.account r.block) (sym after) (t.0.0, t.0.1, t.0.2, kept r.block t.0.0 t.0.1 t.0.2 t.0.3), t.1);
+  atoms = λ j r there. subst (λ (z : Seated). HasAtom z.account r) (sym after) (still r (row_atom k need c m given c.account.tree.front p vs b here count done only j r there));
 }
   where
+    still : (r : Row) → HasAtom m.account r → HasAtom (after_answer m.account (Swept need m.account.tree.front given ∷ [])) r
+    still r h = let x = h.loaded in record { head = h.head; loaded = record { load = x.load; index = x.index; loaded = x.loaded; place = x.place; found = x.found }; above = h.above; most = h.most }
+
     kept : (block atom code word : ℕ) → HasCode m.account block atom code word → HasCode (after_answer m.account (Swept need m.account.tree.front given ∷ [])) block atom code word
     kept block atom code word h = record { load = h.load; index = h.index; loaded = h.loaded; row = h.row; code_is = h.code_is; found = h.found }
 

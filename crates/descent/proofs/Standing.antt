@@ -1,18 +1,42 @@
 -- What the steps of a descent leave of its caller.
 use Rattle.std.proofs.Common.{◌≡◌, ℕ, zero, suc, ◌<◌, Bool, List, [], ◌∷◌, ◌++◌, ◌+◌, ◌*◌, ◌^◌, ◌/◌, ◌%◌, length, map, sym, refl, ap, ◌∙◌, subst, append_assoc, arith}
 use Rattle.std.proofs.lemmas.List.{append-nil}
+use lib.ListN.{get_elem?}
 use Rattle.board_core.specs.declared.account.Account.{Account}
 use Rattle.board_core.specs.declared.loads.CodeLoad.{CodeLoad as BoardLoad}
+use Rattle.board_core.specs.declared.loads.WordLoad.{WordLoad}
 use Rattle.board_core.specs.declared.room.Row.{Row}
+use Rattle.board_core.specs.Each.{Each}
 use Rattle.board_core.specs.Rows.{entry_word}
 use Rattle.board_core.specs.Met.{row_named}
 use Rattle.board_core.specs.After.{after_walk, after_slot, after_link, after_more, after_head, after_code}
 use Rattle.board.specs.Seated.{Place, Seated, IsOf, with_account}
 use Rattle.descent.specs.Seats.{load, load_of, seat_of, with_load}
-use Rattle.descent.specs.Standing.{Stands, rest, OnlyLoads}
+use Rattle.board_core.proofs.Lists.{each_append, each_none, each_cons}
+use Rattle.board_core.proofs.LoadMet.{head_stays}
+use Rattle.descent.specs.Standing.{Stands, rest, HasAtom, OnlyLoads}
+use Rattle.descent.proofs.Lists.{at_left}
+
+-- a block that was found to have an atom still has it
+pub atom_later : (a b : Account) (more : List WordLoad) (r : Row) → b.loads.heads ≡ a.loads.heads ++ more → HasAtom a r → HasAtom b r
+atom_later a b more r longer h = record {
+  head = h.head;
+  loaded = let x = h.loaded in record {
+    load = x.load;
+    index = x.index;
+    loaded = ap (λ (l : List WordLoad). get_elem? l x.index) longer ∙ at_left a.loads.heads more x.index x.load x.loaded;
+    place = x.place;
+    found = x.found;
+  };
+  above = h.above;
+  most = h.most;
+}
+
+no_atoms : (a : Account) → Each (λ (l : BoardLoad). HasAtom a l.row) []
+no_atoms a = each_none (λ (l : BoardLoad). HasAtom a l.row)
 
 pub only_same : (c : Seated) → OnlyLoads c c
-only_same c = record { same = refl; codes = []; codes_are = sym (append-nil c.account.loads.codes); heads = []; heads_are = sym (append-nil c.account.loads.heads) }
+only_same c = record { same = refl; codes = []; codes_are = sym (append-nil c.account.loads.codes); heads = []; heads_are = sym (append-nil c.account.loads.heads); atoms = no_atoms c.account }
 
 pub only_on : (c d e : Seated) → OnlyLoads c d → OnlyLoads d e → OnlyLoads c e
 only_on c d e a b = record {
@@ -21,6 +45,7 @@ only_on c d e a b = record {
   codes_are = b.codes_are ∙ (ap (λ l. l ++ b.codes) a.codes_are ∙ append_assoc c.account.loads.codes a.codes b.codes);
   heads = a.heads ++ b.heads;
   heads_are = b.heads_are ∙ (ap (λ l. l ++ b.heads) a.heads_are ∙ append_assoc c.account.loads.heads a.heads b.heads);
+  atoms = each_append (λ (l : BoardLoad). HasAtom e.account l.row) a.codes b.codes (λ j l there. atom_later d.account e.account b.heads l.row b.heads_are (a.atoms j l there)) b.atoms;
 }
 
 -- a step that loads neither
@@ -31,6 +56,7 @@ only_step c d a after same codes heads = subst (OnlyLoads c) (sym after) record 
   codes_are = codes ∙ sym (append-nil c.account.loads.codes);
   heads = [];
   heads_are = heads ∙ sym (append-nil c.account.loads.heads);
+  atoms = no_atoms a;
 }
 
 pub only_walk : (c d : Seated) → d ≡ with_account c (after_walk c.account) → OnlyLoads c d
@@ -54,15 +80,18 @@ only_head c d block word after = subst (OnlyLoads c) (sym after) record {
   codes_are = sym (append-nil c.account.loads.codes);
   heads = record { place = block; word = word } ∷ [];
   heads_are = refl;
+  atoms = no_atoms (after_head c.account block word);
 }
 
-pub only_code : (c d : Seated) (row : Row) (code word : ℕ) → d ≡ with_account c (after_code c.account row code word) → OnlyLoads c d
-only_code c d row code word after = subst (OnlyLoads c) (sym after) record {
+pub only_code : (c d : Seated) (row : Row) (code word : ℕ) → HasAtom c.account row → d ≡ with_account c (after_code c.account row code word) → OnlyLoads c d
+only_code c d row code word has after = subst (OnlyLoads c) (sym after) record {
   same = refl;
   codes = record { row = row; code = code; word = word } ∷ [];
   codes_are = refl;
   heads = [];
   heads_are = sym (append-nil c.account.loads.heads);
+  atoms = each_cons (λ (l : BoardLoad). HasAtom (after_code c.account row code word) l.row) (record { row = row; code = code; word = word }) []
+      (record { head = has.head; loaded = head_stays c.account row.block has.head row code word has.loaded; above = has.above; most = has.most }) (no_atoms (after_code c.account row code word));
 }
 
 -- ---- what stays

@@ -12,10 +12,10 @@ use Rattle.env_cover.specs.Reach.{CoversCode}
 use Rattle.descent.specs.Seats.{CodeLoad, seat_of}
 use Rattle.descent.specs.Pruned.{IsPruned, IsLoaded, CountsLoaded}
 use Rattle.descent.specs.Walks.{IsTold}
-use Rattle.descent.specs.Standing.{OnlyLoads}
+use Rattle.descent.specs.Standing.{HasAtom, OnlyLoads}
 
 -- from c to d these rows were given and noted, and so many rows were loaded. Whatever five codes the rows have that agree with the code
--- words loaded, these are pruned. A code of each row that was given was loaded, and its block is in the table
+-- words loaded, these are pruned. A code of each row that was given was loaded, its block is in the table and has its atom
 pub record HasSwept (k : Shape) (need : Need) (c d : Seated) (given : List Row) (count : ℕ) : Type 0 where
   pub between : Seated
   pub only : OnlyLoads c between
@@ -25,3 +25,4 @@ pub record HasSwept (k : Shape) (need : Need) (c d : Seated) (given : List Row) 
   pub pruned : (any : ℕ → List ℕ) → ((r : ℕ) → IsLoaded loads r → length (any r) ≡ 5) → Each (IsTold any) loads → IsPruned any (CoversCode need) loads
   pub rows : CountsLoaded loads count
   pub known : Each (λ r. KnowsRow d.account r.block × IsInTable k r.block) given
+  pub atoms : Each (HasAtom d.account) given

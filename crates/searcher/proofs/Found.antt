@@ -1,5 +1,5 @@
 -- What a descent between a pin and an unpin leaves.
-use Rattle.std.proofs.Common.{◌≡◌, ℕ, zero, ◌+◌, ◌≤◌, List, [], ◌∷◌, ◌++◌, length, map, refl, sym, ap, ◌∙◌, subst, arith, append-nil}
+use Rattle.std.proofs.Common.{◌≡◌, ℕ, List, [], ◌∷◌, ◌++◌, length, map, refl, sym, ap, ◌∙◌, subst, arith, append-nil}
 use mathlib.Core.Option.{some}
 use lib.ListN.{get_elem?}
 use Rattle.std.proofs.lemmas.List.Elements.{filter-append}
@@ -14,13 +14,11 @@ use Rattle.board_core.specs.declared.entry.Noted.{Noted}
 use Rattle.board_core.specs.declared.loads.CodeLoad.{CodeLoad}
 use Rattle.board_core.specs.declared.loads.Loads.{Loads}
 use Rattle.board_core.specs.declared.loads.WordLoad.{WordLoad}
-use Rattle.board_core.specs.declared.loads.ShownLoad.{ShownLoad}
 use Rattle.board_core.specs.declared.log.LogAccount.{LogAccount}
 use Rattle.board_core.specs.declared.room.Row.{Row}
-use Rattle.board_core.specs.Each.{Each}
-use Rattle.board_core.specs.After.{after_answer, after_epoch, after_pin, after_unpin, noted, lengths_of}
+use Rattle.board_core.specs.After.{after_epoch, after_pin, after_unpin, noted, lengths_of}
 use Rattle.board_core.specs.Answers.{answers_in, is_answer}
-use Rattle.board_core.specs.Loaded.{Grows, IsInTable, KnowsRow}
+use Rattle.board_core.specs.Loaded.{Grows}
 use Rattle.board.specs.Seated.{Seated, with_account}
 use Rattle.board_core.proofs.Lists.{at_last, at_longer}
 use Rattle.board_core.proofs.Grown.{grows_quiet}
@@ -28,8 +26,8 @@ use Rattle.descent.specs.Standing.{OnlyLoads, rest}
 use Rattle.descent.specs.Answered.{HasSwept}
 use Rattle.descent.specs.Seats.{load_of}
 use Rattle.page_pool.specs.Taking.{IsPinned}
-use Rattle.searcher.specs.Finding.{Visits, IsNeedOf, NotesRows, LoadsPruned, HasFound}
-use Rattle.searcher.proofs.Numbered.{rows_stay}
+use Rattle.searcher.specs.Finding.{Visits, IsNeedOf, HasFound}
+use Rattle.searcher.proofs.Numbered.{atoms_stay, rows_stay}
 
 -- by what a call answers
 pub by_answer : {F : ℕ → Type 0} {G : OutOfMemory → Type 0} {V : Type 0} (r : Result ℕ OutOfMemory) → IfOk r F → IfErr r G → ((n : ℕ) → F n → V) → ((e : OutOfMemory) → G e → V) → V
@@ -158,6 +156,7 @@ module _ (c pin mid last : Seated) (p : IsPinned c pin) (unpin : last ≡ with_a
         is = ap (λ (n : ℕ). Swept need n given) front_is;
       };
       known = rows_stay k mid.account last.account given grown s.known;
+      atoms = atoms_stay k mid.account last.account given grown s.atoms;
       pruned = record {
         need = need;
         need_is = is_need;

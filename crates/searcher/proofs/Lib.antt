@@ -9,3 +9,6 @@ pub mod Found
 pub mod Complete
 pub mod Walks
 pub mod Answered
+pub mod Records
+pub mod Screening
+pub mod Whole

@@ -1,5 +1,5 @@
 -- The number of the event that publishes a block, by its first mark.
-use Rattle.std.proofs.Common.{◌≡◌, ℕ, zero, suc, get_or, ◌+◌, ◌<◌, ◌≤◌, ◌⊎◌, List, [], ◌∷◌, ◌++◌, length, slice_index, refl, sym, ap, ◌∙◌, subst, arith, ⊎_elim, inl, inr, lt_of_not-le}
+use Rattle.std.proofs.Common.{◌≡◌, ℕ, zero, suc, get_or, ◌+◌, ◌<◌, ◌≤◌, ◌⊎◌, List, [], ◌∷◌, ◌++◌, length, refl, sym, ap, ◌∙◌, subst, arith, ⊎_elim, inl, inr, lt_of_not-le}
 use mathlib.Core.Option.{some}
 use mathlib.Core.Logic.{dite}
 use native.Mathlib.Decide.{dec_le, ℕ_discrete}
@@ -26,6 +26,7 @@ use Rattle.board_core.specs.Steps.{MayBe, FirstMark}
 use Rattle.board.specs.Seated.{Seated, with_account}
 use Rattle.board_core.proofs.Lists.{at_last, inside}
 use Rattle.board_core.proofs.Grown.{board_before, code_stays}
+use Rattle.descent.specs.Standing.{HasAtom}
 use Rattle.searcher.specs.Walking.{AreEarly, AreNumbered, IsNumberOf}
 
 -- the row is still known
@@ -34,6 +35,16 @@ row_stays k a b block grown (atom, code, word, has) = (atom, code, word, code_st
 
 pub rows_stay : (k : Shape) (a b : Account) (rows : List Row) → Grows a b → Each (λ r. KnowsRow a r.block × IsInTable k r.block) rows → Each (λ r. KnowsRow b r.block × IsInTable k r.block) rows
 rows_stay k a b rows grown all j r there = let h = all j r there in (row_stays k a b r.block grown h.0, h.1)
+
+pub atoms_stay : (k : Shape) (a b : Account) (rows : List Row) → Grows a b → Each (HasAtom a) rows → Each (HasAtom b) rows
+atoms_stay k a b rows grown all j r there =
+    let h = all j r there in
+    let x = h.loaded in record {
+      head = h.head;
+      loaded = record { load = x.load; index = x.index; loaded = grown.heads x.index x.load x.loaded; place = x.place; found = x.found };
+      above = h.above;
+      most = h.most;
+    }
 
 -- ---- one block
 

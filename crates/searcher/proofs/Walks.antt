@@ -1,5 +1,5 @@
 -- What the walk over the numbers keeps, whatever the board is by what the account has loaded.
-use Rattle.std.proofs.Common.{◌≡◌, ℕ, ◌+◌, ◌-◌, ◌<◌, ◌≤◌, List, [], length, take, slice_index, refl, sym, ap, ◌∙◌, subst, arith}
+use Rattle.std.proofs.Common.{◌≡◌, ℕ, ◌+◌, ◌-◌, ◌<◌, ◌≤◌, List, [], length, take, slice_index, sym, ap, ◌∙◌, subst, arith}
 use Rattle.std.proofs.lemmas.List.{length-take-le, get_or_default}
 use mathlib.Core.Logic.{dite}
 use native.Mathlib.Decide.{dec_le, ℕ_discrete}
@@ -92,7 +92,7 @@ unscreened q pivot need k p a front numbers last next screens m few all apart = 
     none : (number : ℕ) (name : List ℕ) (mol : Molecule) → last < number → number ≤ next → IsLive (take front (history_of k p)) number name mol → IsScreened q mol → ⊥
     none number name mol past within live is = apart number past within (all number name mol live is)
 
-not_between : (numbers : List ℕ) (index last number : ℕ) → IsNext numbers index last number → (n : ℕ) → last < n → n ≤ number - 1 → Contains numbers n → ⊥
+pub not_between : (numbers : List ℕ) (index last number : ℕ) → IsNext numbers index last number → (n : ℕ) → last < n → n ≤ number - 1 → Contains numbers n → ⊥
 not_between numbers index last number next n past within (i, inside, is) =
     let here = next.after in
     let at = get_or_default numbers i n 0 inside in
@@ -101,7 +101,7 @@ not_between numbers index last number next n past within (i, inside, is) =
     (λ late. let up = next.rising index i 0 late inside in let same = next.is in absurd (omega arith))
     (λ early. let low = next.passed i (lt_of_not-le early) in absurd (omega arith))
 
-not_past : (numbers : List ℕ) (last front : ℕ) → ((i : ℕ) → i < length numbers → slice_index numbers i ≤ last) → (n : ℕ) → last < n → n ≤ front → Contains numbers n → ⊥
+pub not_past : (numbers : List ℕ) (last front : ℕ) → ((i : ℕ) → i < length numbers → slice_index numbers i ≤ last) → (n : ℕ) → last < n → n ≤ front → Contains numbers n → ⊥
 not_past numbers last front passed n past within (i, inside, is) =
     let at = get_or_default numbers i n 0 inside in
     let found : slice_index numbers i ≡ n = sym at ∙ is in

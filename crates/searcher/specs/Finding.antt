@@ -14,6 +14,7 @@ use Rattle.board_core.specs.Each.{Each, In}
 use Rattle.board_core.specs.After.{stamp_all}
 use Rattle.board_core.specs.Answers.{answers_in}
 use Rattle.board_core.specs.Loaded.{Grows, IsInTable, KnowsRow}
+use Rattle.descent.specs.Standing.{HasAtom}
 use Rattle.descent.specs.Seats.{CodeLoad, load_of}
 use Rattle.descent.specs.Pruned.{IsPruned, IsLoaded, CountsLoaded}
 use Rattle.descent.specs.Walks.{IsTold}
@@ -78,4 +79,5 @@ pub record NotesRows (query : QueryGraph) (b : Account) (front : ℕ) (rows : Li
 pub record HasFound (k : Shape) (query : QueryGraph) (a b : Account) (given : List Row) (count : ℕ) : Type 0 where
   pub notes : NotesRows query b a.log.seen given
   pub known : Each (λ r. KnowsRow b r.block × IsInTable k r.block) given
+  pub atoms : Each (HasAtom b) given
   pub pruned : LoadsPruned query a b count

@@ -1,3 +1,4 @@
 pub mod Searched
 pub mod Walking
 pub mod Finding
+pub mod Records

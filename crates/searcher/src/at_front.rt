@@ -10,6 +10,7 @@ ghost use Rattle.board_core.specs.declared.entry.Reply.TheVariants.{Hits, OverBu
 ghost use Rattle.board_core.specs.After.{after_answer};
 ghost use Rattle.board_core.specs.Steps.{AreTrue};
 ghost use Rattle.board.specs.Seated.{IsOf, with_account};
+ghost use Rattle.searcher.specs.Records.{AreOfScreened, ReadsAllScreened, ReadsLive, ReadsOnly, ReadsScreened};
 ghost use Rattle.searcher.specs.Searched.{IsSearched, LoadsOnce};
 ghost use Rattle.searcher.specs.Finding.{HasRead, LoadsPruned};
 ghost use Rattle.searcher.specs.Walking.{Reads, Replies, AreFound, AllScreened, Takes, Spends, Whatever};
@@ -92,6 +93,8 @@ fn take_one(
     ensures stock { caller.new.stock ≡ caller.old.stock }
     ensures reads { Reads caller.old.account caller.new.account }
     ensures once { LoadsOnce caller.old.account caller.new.account 1 }
+    ensures read { ReadsOnly board.now.shape front number caller.old.account caller.new.account }
+    ensures whole { ReadsLive board.now.shape front number caller.old.account caller.new.account }
     ensures size { length words.new ≡ 7200 }
     ensures asked { search.new.matcher ≡ search.old.matcher }
     ensures front { search.new.front ≡ search.old.front }
@@ -128,11 +131,14 @@ fn fill(
     requires numbers { (i : ℕ) → i < length numbers.now → (0 < slice_index numbers.now i) × (slice_index numbers.now i ≤ front) }
     requires rising { IsNonDecreasing numbers.now }
     requires all { Whatever board.now.shape caller.old.account front (AllScreened query.now numbers.now) }
+    requires screened { Whatever board.now.shape caller.old.account front (AreOfScreened query.now numbers.now) }
     requires empty { hits.old ≡ no_hits }
     ensures of { IsOf board.now caller.new }
     ensures stock { caller.new.stock ≡ caller.old.stock }
     ensures reads { Reads caller.old.account caller.new.account }
     ensures once { LoadsOnce caller.old.account caller.new.account (length numbers.now) }
+    ensures read { ReadsScreened board.now.shape query.now front caller.old.account caller.new.account }
+    ensures whole { OnOk result (ReadsAllScreened board.now.shape query.now front caller.old.account caller.new.account) }
     ensures found { OnOk result (AreFound board.now.shape caller.new.account query.now budget front hits.new) }
     ensures rows { OnOk result (hits.new.rows ≡ rows) }
     ensures over { (at : ℕ) → result ≡ Err (SearchError.OverBudget at) → (at ≡ front) × Replies board.now.shape caller.new.account query.now budget front over_budget }
@@ -179,6 +185,8 @@ fn answer(
     ensures of { IsOf board.now caller.new }
     ensures stock { caller.new.stock ≡ caller.old.stock }
     ensures reads { HasRead caller.old.account caller.new.account }
+    ensures read { ReadsScreened board.now.shape query.now front caller.old.account caller.new.account }
+    ensures whole { OnOk result (ReadsAllScreened board.now.shape query.now front caller.old.account caller.new.account) }
     ensures found { OnOk result (AreFound board.now.shape caller.new.account query.now budget front hits.new) }
     ensures rows { OnOk result (LoadsPruned query.now caller.old.account caller.new.account hits.new.rows) }
     ensures over { (at : ℕ) → result ≡ Err (SearchError.OverBudget at) → (at ≡ front) × Replies board.now.shape caller.new.account query.now budget front over_budget
@@ -202,8 +210,8 @@ fn answer(
 /// embedding, how many records were screened, and how many rows were loaded. It answers the front. It is over budget only where the work
 /// of this search exceeds the budget, and always where the screened records have more atoms than that. After an error the list is empty.
 /// It descends in the class tree with the need of the query's pivot: the code words that it loads are pruned (`LoadsPruned`), none is
-/// loaded twice, and it reads the records of the rows that cover, without their codes. It doesn't wait. The answer is true of every
-/// board that has what the caller has loaded by then.
+/// loaded twice. The names, atoms and bonds that it loads are those of screened records (`ReadsScreened`). It doesn't wait. The answer is
+/// true of every board that has what the caller has loaded by then.
 pub fn search(
     alloc: Global,
     board: &Board,
@@ -220,11 +228,14 @@ pub fn search(
         × IsSearched caller.old.account caller.new.account f (Answered query.now budget f (Hits hits.new.hits) ∷ [])) }
     ensures records { IfOk result (λ f. Whatever board.now.shape caller.new.account f (λ h. Counts query.now h hits.new.records)) }
     ensures rows { IfOk result (λ f. LoadsPruned query.now caller.old.account caller.new.account hits.new.rows) }
+    ensures read { IfOk result (λ f. ReadsScreened board.now.shape query.now f caller.old.account caller.new.account) }
+    ensures whole { IfOk result (λ f. ReadsAllScreened board.now.shape query.now f caller.old.account caller.new.account) }
     ensures reply { IfOk result (λ f. Whatever board.now.shape caller.new.account f (λ h. IsReply query.now budget h (found hits.new.hits))) }
     ensures over { (at : ℕ) → result ≡ Err (SearchError.OverBudget at) → (caller.old.account.log.seen ≤ at)
         × IsSearched caller.old.account caller.new.account at (Answered query.now budget at OverBudget ∷ [])
         × Whatever board.now.shape caller.new.account at (λ h. IsReply query.now budget h over_budget)
         × ((rows : ℕ) × LoadsPruned query.now caller.old.account caller.new.account rows) }
+    ensures read_over { (at : ℕ) → result ≡ Err (SearchError.OverBudget at) → ReadsScreened board.now.shape query.now at caller.old.account caller.new.account }
     ensures memory { result ≡ Err SearchError.OutOfMemory → (f : ℕ) × IsSearched caller.old.account caller.new.account f [] }
     ensures empty { IfErr result (λ e. hits.new ≡ no_hits) }
 {

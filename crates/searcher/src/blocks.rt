@@ -5,6 +5,7 @@ ghost use Rattle.board_core.specs.Blocks.{block_size};
 ghost use Rattle.board_core.specs.Loaded.{KnowsBlock, KnowsHead, IsInTable, HasBlock};
 ghost use Rattle.board_core.specs.Steps.{MayBeSome};
 ghost use Rattle.board.specs.Seated.{IsOf};
+ghost use Rattle.searcher.specs.Records.{IsOfBlock, IsTextPlace, ReadsAt, ReadsWord};
 ghost use Rattle.searcher.specs.Searched.{Loads, words_past};
 ghost use Rattle.searcher.specs.Walking.{Reads, HasFacts};
 
@@ -36,6 +37,8 @@ fn load_words(
     ensures words { HasFacts caller.new.account block words.new from until }
     ensures others { (i : ℕ) → (i < from) ⊎ (until ≤ i) → slice_index words.new i ≡ slice_index words.old i }
     ensures once { Loads caller.old.account caller.new.account 0 0 (until - from) [] }
+    ensures of_block { ReadsAt caller.old.account caller.new.account (IsOfBlock block head) }
+    ensures read { (i : ℕ) → from ≤ i → i < until → ReadsWord caller.old.account caller.new.account (block + i) }
 {
     for index in from..until {
         words[index as usize] = load_fact(board, caller, block, head, index);
@@ -56,6 +59,8 @@ pub(crate) fn load_block(board: &Board, caller: &mut Caller, block: u64, words: 
     ensures whole { block_size (slice_index words.new 0) ≤ length words.new }
     ensures words { HasBlock board.now.shape caller.new.account block (slice_index words.new) }
     ensures once { (head : ℕ) × Loads caller.old.account caller.new.account 0 0 (words_past head) (record { place = block; word = head } ∷ []) }
+    ensures of_block { (head : ℕ) × KnowsHead board.now.shape caller.new.account block head × ReadsAt caller.old.account caller.new.account (IsOfBlock block head)
+        × ((i : ℕ) → IsTextPlace head i → ReadsWord caller.old.account caller.new.account (block + i)) }
 {
     let head = load_head(board, caller, block);
     words[0] = head;

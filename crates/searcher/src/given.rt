@@ -4,6 +4,7 @@ ghost use Rattle.std.specs.List.Sorted.{IsNonDecreasing};
 ghost use Rattle.board_core.specs.Each.{Each};
 ghost use Rattle.board_core.specs.Loaded.{IsInTable, KnowsRow};
 ghost use Rattle.board.specs.Seated.{IsOf};
+ghost use Rattle.searcher.specs.Records.{AreOfRows};
 ghost use Rattle.searcher.specs.Searched.{Loads};
 ghost use Rattle.searcher.specs.Walking.{Reads, AreEarly, AreNumbered, IsNumberOf};
 
@@ -63,6 +64,7 @@ fn numbers_of(
     ensures once { (marks : ℕ) × (marks ≤ length rows.now) × Loads caller.old.account caller.new.account 0 marks 0 [] }
     ensures early { IfOk result (λ numbers. AreEarly front numbers.items × (length numbers.items ≤ length rows.now)) }
     ensures all { IfOk result (λ numbers. Each (λ r. AreNumbered board.now.shape caller.new.account front r.block numbers.items) rows.now) }
+    ensures of_rows { IfOk result (λ numbers. AreOfRows board.now.shape caller.new.account rows.now numbers.items) }
 {
     let mut numbers = Vec::new(alloc);
     for index in 0..rows.len() {
@@ -91,6 +93,7 @@ pub(crate) fn numbers_in_order(
     ensures once { (marks : ℕ) × (marks ≤ length rows.now) × Loads caller.old.account caller.new.account 0 marks 0 [] }
     ensures early { IfOk result (λ numbers. AreEarly front numbers.items × (length numbers.items ≤ length rows.now)) }
     ensures all { IfOk result (λ numbers. Each (λ r. AreNumbered board.now.shape caller.new.account front r.block numbers.items) rows.now) }
+    ensures of_rows { IfOk result (λ numbers. AreOfRows board.now.shape caller.new.account rows.now numbers.items) }
     ensures rising { IfOk result (λ numbers. IsNonDecreasing numbers.items) }
 {
     let mut numbers = numbers_of(alloc, board, caller, front, rows)?;

@@ -22,5 +22,8 @@ loop-level-preserved g c = record {
   sifting = sifting_more (g.N.Asks.covers c.args.need.now) c.args.row (seat_of c.args.caller.now.account) (seat_of c.loop-level.caller.account) (seat_of c.load_met_code-code.new.caller.account) c.loop-level.level c.load_met_code-code.result
       c.loop-level.invariant.sifting (code_loaded c.args.row c.loop-level.level c.load_met_code-code.result c.loop-level.caller c.load_met_code-code.new.caller c.load_met_code-code.ensures.after) (c.if-not-covers_code.ensures.0 refl);
   head = next_head c.args.row c.loop-level.level c.load_met_code-code.result c.loop-level.caller c.load_met_code-code.new.caller c.load_met_code-code.ensures.after c.load_met_head-head.result c.loop-level.invariant.head;
-  only = next_only c.args.row c.loop-level.level c.load_met_code-code.result c.loop-level.caller c.load_met_code-code.new.caller c.load_met_code-code.ensures.after c.args.caller.now c.loop-level.invariant.only;
+  only = next_only c.args.row c.loop-level.level c.load_met_code-code.result c.loop-level.caller c.load_met_code-code.new.caller c.load_met_code-code.ensures.after c.args.caller.now c.load_met_head-head.result c.loop-level.invariant.head c.load_met_head-head.ensures.atom c.loop-level.invariant.only;
 }
+
+pub returns-then-not-covers_code-clause-only : goal.returns-then-not-covers_code-clause-only
+returns-then-not-covers_code-clause-only g c = next_only c.args.row c.loop-level.level c.load_met_code-code.result c.loop-level.caller c.load_met_code-code.new.caller c.load_met_code-code.ensures.after c.args.caller.now c.load_met_head-head.result c.loop-level.invariant.head c.load_met_head-head.ensures.atom c.loop-level.invariant.only

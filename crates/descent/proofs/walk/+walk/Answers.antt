@@ -5,7 +5,7 @@ use Rattle.descent.specs.Seats.{Seat, seat_of}
 use mathlib.Core.Option.{some}
 use lib.ListN.{get_elem?}
 use Rattle.board_core.specs.Boards.{SomeBoard}
-use Rattle.descent.specs.Standing.{Stands}
+use Rattle.descent.specs.Standing.{OnlyLoads, Stands}
 use Rattle.descent.proofs.Boards.{some_moment}
 use Rattle.descent.proofs.Standing.{only_same, only_on, stands_on}
 use Rattle.descent.proofs.Full.{chain_full, follow_full, slot_pages}
@@ -180,3 +180,27 @@ follow-returns-then-count-eq18446744073709551615-clause-err g t c = follow_full 
 
 pub follow-returns-then-count-eq18446744073709551615-clause-only : goal.follow-returns-then-count-eq18446744073709551615-clause-only
 follow-returns-then-count-eq18446744073709551615-clause-only g t c = only_same c.args.caller.now
+
+pub chain-returns-in_err-part-clause-only : goal.chain-returns-in_err-part-clause-only
+chain-returns-in_err-part-clause-only g t c = only_on c.args.caller.now c.chain.caller c.page.new.caller c.chain.invariant.only c.page.ensures.only
+
+pub chain-returns-then-part-clause-only : goal.chain-returns-then-part-clause-only
+chain-returns-then-part-clause-only g t c = only_on c.args.caller.now c.chain.caller c.page.new.caller c.chain.invariant.only c.page.ensures.only
+
+pub chain-returns-then-stands_alone-clause-only : goal.chain-returns-then-stands_alone-clause-only
+chain-returns-then-stands_alone-clause-only g t c = only_on c.args.caller.now c.chain.caller c.page.new.caller c.chain.invariant.only c.page.ensures.only
+
+pub chain-returns-then-count-eq18446744073709551615-clause-only : goal.chain-returns-then-count-eq18446744073709551615-clause-only
+chain-returns-then-count-eq18446744073709551615-clause-only g t c = only_on c.args.caller.now c.chain.caller c.page.new.caller c.chain.invariant.only c.page.ensures.only
+
+pub chain-returns-in-None-clause-only : goal.chain-returns-in-None-clause-only
+chain-returns-in-None-clause-only g t c = only_on c.args.caller.now c.page.new.caller c.more.new.caller (only_on c.args.caller.now c.chain.caller c.page.new.caller c.chain.invariant.only c.page.ensures.only) c.more.ensures.only
+
+pub follow-returns-in-Some-clause-only : goal.follow-returns-in-Some-clause-only
+follow-returns-in-Some-clause-only g t c = only_on c.args.caller.now c.header.new.caller c.chain.new.caller (subst (λ (z : Seated). OnlyLoads c.args.caller.now z) (sym c.header.ensures.same) c.link.ensures.only) c.chain.ensures.only
+
+pub inner_page-returns-then-code-eq0-clause-only : goal.inner_page-returns-then-code-eq0-clause-only
+inner_page-returns-then-code-eq0-clause-only g t c = only_on c.args.caller.now c.loop-index.caller c.slot-code.new.caller c.loop-index.invariant.only c.slot-code.ensures.only
+
+pub inner_page-returns-in_err-rows-clause-only : goal.inner_page-returns-in_err-rows-clause-only
+inner_page-returns-in_err-rows-clause-only g t c = only_on c.args.caller.now c.slot-code.new.caller c.follow.new.caller (only_on c.args.caller.now c.loop-index.caller c.slot-code.new.caller c.loop-index.invariant.only c.slot-code.ensures.only) c.follow.ensures.only

@@ -44,3 +44,9 @@ returns-in_err-offer-clause-err g c = err_any c.from_residual.result
     (leaf_tried c.args.board.now.shape.chain (g.N.Asks.covers c.args.need.now) c.args.at.number c.args.at.page c.args.depth (seat_of c.args.caller.now.account) (g.S.RowSink.given c.args.sink.now) c.requires.at
     (seat_of c.loop-index.caller.account) (g.S.RowSink.given c.loop-index.sink) c.loop-index.index c.loop-index.invariant.reading (let auto = c.loop-index.auto in omega arith) (seat_of c.slot-row.new.caller.account) c.slot-row.result c.slot-row.ensures.after (some_moment c.args.board.now.shape c.slot-row.new.caller.account c.slot-row.ensures.board) c.if-row-eq0.false
     (seat_of c.offer.new.caller.account) (g.S.RowSink.given c.offer.new.sink) c.in_err-offer.ensures.err)
+
+pub returns-then-row-eq0-clause-only : goal.returns-then-row-eq0-clause-only
+returns-then-row-eq0-clause-only g c = only_on c.args.caller.now c.loop-index.caller c.slot-row.new.caller c.loop-index.invariant.only c.slot-row.ensures.only
+
+pub returns-in_err-offer-clause-only : goal.returns-in_err-offer-clause-only
+returns-in_err-offer-clause-only g c = only_on c.args.caller.now c.slot-row.new.caller c.offer.new.caller (only_on c.args.caller.now c.loop-index.caller c.slot-row.new.caller c.loop-index.invariant.only c.slot-row.ensures.only) c.offer.ensures.only

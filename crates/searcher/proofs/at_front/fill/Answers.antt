@@ -1,9 +1,10 @@
-use Rattle.std.proofs.Common.{◌≡◌, ℕ, ◌+◌, ◌<◌, ◌≤◌, List, length, slice_index, refl, sym, ap, ◌∙◌, arith, rules}
-use mathlib.Core.Logic.{dite}
-use native.Mathlib.Decide.{ℕ_discrete}
+use Rattle.std.proofs.Common.{◌≡◌, ◌+◌, length, slice_index, refl, sym, ap, ◌∙◌, arith}
 use Rattle.std.proofs.lemmas.Result.{err_from_is_err_and}
 use Rattle.htss_defs.specs.HitLists.{HitsKept}
 use Rattle.searcher.specs.Walking.{AllScreened}
+use Rattle.searcher.specs.Records.{AreOfScreened}
+use Rattle.searcher.proofs.Records.{screened_more, screened_none}
+use Rattle.searcher.proofs.Whole.{up_to_all, up_to_more, up_to_none}
 use Rattle.searcher.proofs.Read.{reads_same, reads_trans}
 use Rattle.searcher.proofs.Once.{once_none, once_both, once_fewer}
 use Rattle.searcher.proofs.Walks.{IsNext, walked_none, walked_more, walked_over, walked_found, whatever_later, seen_still, passed_more, passed_one}
@@ -16,6 +17,8 @@ loop-index-init c = record {
   stock = refl;
   reads = reads_same c.args.caller.now.account;
   once = once_none c.args.caller.now.account;
+  read = screened_none c.args.board.now.shape c.args.query.now c.args.front c.args.caller.now.account;
+  whole = up_to_none c.args.board.now.shape c.args.front c.args.numbers.now c.args.caller.now.account;
   size = refl;
   early = omega arith;
   passed = λ i below. absurd (omega arith);
@@ -28,6 +31,16 @@ returns-in_err-take_one-clause-once c =
     let more = c.loop-index-test.true in
     once_fewer c.args.caller.now.account c.take_one.new.caller.account (c.loop-index.index + 1) (length c.args.numbers.now) (omega (arith, more))
     (once_both c.args.caller.now.account c.loop-index.caller.account c.take_one.new.caller.account c.loop-index.index 1 c.loop-index.invariant.once c.take_one.ensures.once)
+
+pub returns-in_err-take_one-clause-read : goal.returns-in_err-take_one-clause-read
+returns-in_err-take_one-clause-read c =
+    let k = c.args.board.now.shape in
+    let first = c.args.caller.now.account in
+    let a = c.loop-index.caller.account in
+    let b = c.take_one.new.caller.account in
+    let reads = reads_trans first a b c.loop-index.invariant.reads c.take_one.ensures.reads in
+    screened_more k c.args.query.now c.args.front c.loop-index.index c.args.numbers.now first a b c.take_one.ensures.reads.grown c.loop-index-test.true
+    (whatever_later k first b c.args.front (AreOfScreened c.args.query.now c.args.numbers.now) reads.grown c.requires.screened) c.loop-index.invariant.read c.take_one.ensures.read
 
 pub returns-in_err-take_one-clause-over : goal.returns-in_err-take_one-clause-over
 returns-in_err-take_one-clause-over c = λ at e.
@@ -72,6 +85,9 @@ loop-index-preserved c =
             stock = w.take_one.ensures.stock ∙ i.stock;
             reads = reads;
             once = once_both first a b index 1 i.once w.take_one.ensures.once;
+            read = screened_more k c.args.query.now front index c.args.numbers.now first a b w.take_one.ensures.reads.grown c.loop-index-test.true
+                (whatever_later k first b front (AreOfScreened c.args.query.now c.args.numbers.now) reads.grown c.requires.screened) i.read w.take_one.ensures.read;
+            whole = up_to_more k front index c.loop-index.last number c.args.numbers.now first a b i.reads.grown w.take_one.ensures.reads.grown next i.whole w.take_one.ensures.whole;
             size = w.take_one.ensures.size;
             early = early;
             passed = passed_more c.args.numbers.now index c.loop-index.last number next;
@@ -84,6 +100,8 @@ loop-index-preserved c =
         stock = i.stock;
         reads = i.reads;
         once = once_fewer first a index (index + 1) (omega arith) i.once;
+        read = i.read;
+        whole = i.whole;
         size = i.size;
         early = i.early;
         passed = passed_one c.args.numbers.now index c.loop-index.last i.passed w.if-number-last.false;
@@ -104,3 +122,13 @@ returns-clause-found c =
     let done = c.loop-index-test.false in
     walked_found k a c.args.query.now front c.args.budget c.loop-index.last s.matcher s.front s.left s.records c.loop-index.hits i.walked s.pivot s.need s.screens c.args.numbers.now c.set_counts.new.self (omega arith) i.early all
     (λ j inside. i.passed j (omega arith)) (ap (λ (h : HitsKept). h.hits) c.set_counts.ensures) (ap (λ (h : HitsKept). h.records) c.set_counts.ensures ∙ c.records.ensures)
+
+pub returns-clause-whole : goal.returns-clause-whole
+returns-clause-whole c =
+    let i = c.loop-index.invariant in
+    let k = c.args.board.now.shape in
+    let first = c.args.caller.now.account in
+    let a = c.loop-index.caller.account in
+    let done = c.loop-index-test.false in
+    up_to_all k c.args.query.now c.args.front c.loop-index.last c.args.numbers.now first a (whatever_later k first a c.args.front (AllScreened c.args.query.now c.args.numbers.now) i.reads.grown c.requires.all)
+    (λ j inside. i.passed j (omega arith)) i.whole

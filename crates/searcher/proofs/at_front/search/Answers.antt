@@ -1,11 +1,12 @@
 use Rattle.std.proofs.Common.{◌≡◌, ℕ, ◌≤◌, [], ◌∷◌, Err, refl, sym, ap, ◌∙◌, subst}
 use Rattle.std.specs.Prelude.{Result}
 use Rattle.htss_defs.specs.declared.history.SearchError.{SearchError}
-use Rattle.board_core.specs.declared.entry.Entry.{Entry}
 use Rattle.board_core.specs.declared.entry.Entry.TheVariants.{Answered}
 use Rattle.board_core.specs.declared.entry.Reply.TheVariants.{Hits, OverBudget}
 use Rattle.searcher.specs.Searched.{IsSearched}
-use Rattle.searcher.specs.Finding.{LoadsPruned}
+use Rattle.searcher.specs.Records.{ReadsScreened}
+use Rattle.searcher.proofs.Records.{read_fronted, read_noted}
+use Rattle.searcher.proofs.Whole.{all_fronted, all_noted}
 use Rattle.reg_model.specs.Searches.{Counts}
 use Rattle.htss_defs.specs.Reply.{IsReply, found, over_budget}
 use Rattle.searcher.specs.Walking.{Whatever}
@@ -43,6 +44,15 @@ returns-in-Err-OverBudget-clause-over c = λ at e.
       ),
     )
 
+pub returns-in-Err-OverBudget-clause-read_over : goal.returns-in-Err-OverBudget-clause-read_over
+returns-in-Err-OverBudget-clause-read_over c = λ at e.
+    let front = c.load_front-front.result in
+    let own = c.in-Err-OverBudget.at in
+    let told = c.in-Err-OverBudget.ensures.over own (ap (λ (x : SearchError). let r : Result (Unit {0}) SearchError = Err x in r) c.in-Err-OverBudget.field-0-is) in
+    subst (λ (z : ℕ). ReadsScreened c.args.board.now.shape c.args.query.now z c.args.caller.now.account c.note_over.new.caller.account) (sym (same_front own at e ∙ told.0))
+    (read_noted c.args.board.now.shape c.args.query.now front c.args.caller.now.account c.answer.new.caller c.note_over.new.caller (Answered c.args.query.now c.args.budget own OverBudget ∷ []) c.note_over.ensures
+    (read_fronted c.args.caller.now c.load_front-front.new.caller front c.args.board.now.shape c.args.query.now front c.answer.new.caller.account c.load_front-front.ensures.after c.answer.ensures.read))
+
 pub returns-in-Err-OutOfMemory-clause-memory : goal.returns-in-Err-OutOfMemory-clause-memory
 returns-in-Err-OutOfMemory-clause-memory c = λ _. (
   c.load_front-front.result,
@@ -51,3 +61,19 @@ returns-in-Err-OutOfMemory-clause-memory c = λ _. (
 
 pub returns-in-Ok-clause-reply : goal.returns-in-Ok-clause-reply
 returns-in-Ok-clause-reply c = whatever_noted c.args.board.now.shape c.answer.new.caller c.note_hits.new.caller (Answered c.args.query.now c.args.budget c.load_front-front.result (Hits c.answer.new.hits.hits) ∷ []) c.load_front-front.result (λ h. IsReply c.args.query.now c.args.budget h (found c.answer.new.hits.hits)) c.note_hits.ensures c.in-Ok.ensures.found.replies.is
+
+pub returns-in-Ok-clause-read : goal.returns-in-Ok-clause-read
+returns-in-Ok-clause-read c =
+    let k = c.args.board.now.shape in
+    let query = c.args.query.now in
+    let front = c.load_front-front.result in
+    read_noted k query front c.args.caller.now.account c.answer.new.caller c.note_hits.new.caller (Answered query c.args.budget front (Hits c.answer.new.hits.hits) ∷ []) c.note_hits.ensures
+    (read_fronted c.args.caller.now c.load_front-front.new.caller front k query front c.answer.new.caller.account c.load_front-front.ensures.after c.answer.ensures.read)
+
+pub returns-in-Ok-clause-whole : goal.returns-in-Ok-clause-whole
+returns-in-Ok-clause-whole c =
+    let k = c.args.board.now.shape in
+    let query = c.args.query.now in
+    let front = c.load_front-front.result in
+    all_noted k query front c.args.caller.now.account c.answer.new.caller c.note_hits.new.caller (Answered query c.args.budget front (Hits c.answer.new.hits.hits) ∷ []) c.note_hits.ensures
+    (all_fronted c.args.caller.now c.load_front-front.new.caller front k query front c.answer.new.caller.account c.load_front-front.ensures.after c.in-Ok.ensures.whole)

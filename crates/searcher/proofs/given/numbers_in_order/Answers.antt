@@ -1,6 +1,7 @@
-use Rattle.std.proofs.Common.{◌≡◌, ◌≤◌, length, arith}
+use Rattle.std.proofs.Common.{arith}
 use Rattle.std.proofs.lemmas.List.Sorted.{IsNonDecreasingBy-from_sort}
 use Rattle.searcher.proofs.Numbered.{early_shuffled, numbered_shuffled}
+use Rattle.searcher.proofs.Screening.{of_rows_shuffled}
 use Rattle.searcher.proofs.given.numbers_in_order.Goals as goal
 
 pub returns-clause-early : goal.returns-clause-early
@@ -16,3 +17,6 @@ returns-clause-all c = numbered_shuffled c.args.board.now.shape c.numbers_of.new
 
 pub returns-clause-rising : goal.returns-clause-rising
 returns-clause-rising c = IsNonDecreasingBy-from_sort (λ x. x) c.sort_unstable.new.self.items c.sort_unstable.ensures.sorted
+
+pub returns-clause-of_rows : goal.returns-clause-of_rows
+returns-clause-of_rows c = of_rows_shuffled c.args.board.now.shape c.numbers_of.new.caller.account c.args.rows.now c.in_ok-numbers.numbers.items c.sort_unstable.new.self.items c.sort_unstable.ensures.permutation c.in_ok-numbers.ensures.of_rows

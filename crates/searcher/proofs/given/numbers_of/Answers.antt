@@ -1,9 +1,11 @@
-use Rattle.std.proofs.Common.{◌≡◌, ℕ, ◌+◌, ◌<◌, ◌≤◌, List, [], ◌∷◌, ◌++◌, length, get_or, refl, sym, ap, ◌∙◌, subst, arith}
+use Rattle.std.proofs.Common.{◌≡◌, ℕ, ◌+◌, ◌≤◌, List, [], ◌∷◌, ◌++◌, length, get_or, sym, ap, ◌∙◌, subst, arith}
 use Rattle.std.proofs.lemmas.List.{length_push}
 use Rattle.board_core.specs.declared.room.Row.{Row}
 use Rattle.searcher.proofs.Read.{reads_trans}
 use Rattle.searcher.proofs.Once.{loads_both}
 use Rattle.searcher.proofs.Numbered.{rows_stay, numbered_more, numbered_passed, numbered_all, early_more, row_at, AreNumberedTo}
+use Rattle.searcher.proofs.Screening.{of_rows_later, of_rows_more}
+use Rattle.searcher.specs.Records.{AreOfRows}
 use Rattle.searcher.specs.Walking.{AreEarly}
 use Rattle.searcher.proofs.given.numbers_of.Goals.{then-number-gt0+in_ok-push, else-number-gt0}
 use Rattle.searcher.proofs.given.numbers_of.Goals as goal
@@ -53,6 +55,7 @@ loop-index-preserved c =
             once = once;
             few = subst (λ (l : List ℕ). length l ≤ index + 1) (sym more) (omega arith);
             early = subst (AreEarly c.args.front) (sym more) (early_more c.args.front number numbers i.early w.if-number-gt0.true c.number_of-number.ensures.number.early);
+            of_rows = subst (AreOfRows k b rows) (sym more) (of_rows_more k a b c.args.front index number rows row numbers grown here c.number_of-number.ensures.number w.if-number-gt0.true i.of_rows);
             all = subst (AreNumberedTo k b c.args.front rows (index + 1)) (sym more) (numbered_more k a b c.args.front index number rows row numbers grown here c.number_of-number.ensures.number i.all);
           })
       | else-number-gt0 w ↦
@@ -66,6 +69,7 @@ loop-index-preserved c =
             once = once;
             few = subst (λ (l : List ℕ). length l ≤ index + 1) (sym same) (omega arith);
             early = subst (AreEarly c.args.front) (sym same) i.early;
+            of_rows = subst (AreOfRows k b rows) (sym same) (of_rows_later k a b rows numbers grown i.of_rows);
             all = subst (AreNumberedTo k b c.args.front rows (index + 1)) (sym same) (numbered_passed k a b c.args.front index number rows row numbers grown here (omega arith) c.number_of-number.ensures.number i.all);
           })
     ]

@@ -1,7 +1,8 @@
-use Rattle.std.proofs.Common.{◌≡◌, ℕ, ◌≤◌, [], length}
+use Rattle.std.proofs.Common.{◌≡◌, ◌≤◌, [], length}
 use Rattle.board_core.specs.Each.{Each}
 use Rattle.board_core.specs.Loaded.{IsInTable, KnowsRow}
 use Rattle.board.specs.Seated.{IsOf}
+use Rattle.searcher.specs.Records.{AreOfRows}
 use Rattle.searcher.specs.Searched.{Loads}
 use Rattle.searcher.specs.Walking.{Reads, AreEarly}
 use Rattle.searcher.proofs.Numbered.{AreNumberedTo}
@@ -16,5 +17,6 @@ invariant-loop-index l = record {
   once : Loads l.fn.caller.account l.caller.account 0 l.index 0 [];
   few : length l.numbers.items ≤ l.index;
   early : AreEarly l.front l.numbers.items;
+  of_rows : AreOfRows l.board.shape l.caller.account l.rows l.numbers.items;
   all : AreNumberedTo l.board.shape l.caller.account l.front l.rows l.index l.numbers.items;
 }

@@ -1,7 +1,10 @@
-use Rattle.std.proofs.Common.{slice_index}
+use Rattle.std.proofs.Common.{◌+◌, [], slice_index}
 use Rattle.searcher.proofs.Read.{reads_trans}
 use Rattle.searcher.proofs.Once.{once_block, once_passed}
 use Rattle.searcher.proofs.Living.{is_record, read_live}
+use Rattle.searcher.specs.Records.{IsOfBlock, IsOfLive}
+use Rattle.searcher.proofs.Records.{at_both, block_read, loads_nothing}
+use Rattle.searcher.proofs.Whole.{live_whole, none_whole, word_since}
 use Rattle.searcher.proofs.live.load_live.Goals as goal
 
 pub returns-in_default-clause-none : goal.returns-in_default-clause-none
@@ -31,3 +34,51 @@ returns-in_err-mol-clause-reads c = reads_trans c.args.caller.now.account c.open
 
 pub returns-clause-reads : goal.returns-clause-reads
 returns-clause-reads c = reads_trans c.args.caller.now.account c.open_block.new.caller.account c.load_block.new.caller.account c.open_block.ensures.reads c.load_block.ensures.reads
+
+pub returns-in_default-clause-read : goal.returns-in_default-clause-read
+returns-in_default-clause-read c = λ p m. (let once = c.open_block.ensures.once in loads_nothing c.args.caller.now.account c.open_block.new.caller.account 1 once.0 [] (IsOfLive c.args.board.now.shape p c.args.front c.args.number) once.2)
+
+pub returns-in_err-mol-clause-read : goal.returns-in_err-mol-clause-read
+returns-in_err-mol-clause-read c =
+    let k = c.args.board.now.shape in
+    let old = c.args.caller.now.account in
+    let a = c.open_block.new.caller.account in
+    let b = c.load_block.new.caller.account in
+    let once = c.open_block.ensures.once in
+    let of = c.load_block.ensures.of_block in
+    let block = c.in-Some.block in
+    block_read k old a b c.args.front c.args.number block of.0 c.in-Some.ensures.block c.load_block.ensures.reads.grown of.1 c.requires.number.1
+    (at_both old a b (IsOfBlock block of.0) c.load_block.ensures.reads.grown (loads_nothing old a 1 once.0 [] (IsOfBlock block of.0) once.2) of.2)
+
+pub returns-clause-read : goal.returns-clause-read
+returns-clause-read c =
+    let k = c.args.board.now.shape in
+    let old = c.args.caller.now.account in
+    let a = c.open_block.new.caller.account in
+    let b = c.load_block.new.caller.account in
+    let once = c.open_block.ensures.once in
+    let of = c.load_block.ensures.of_block in
+    let block = c.in-Some.block in
+    block_read k old a b c.args.front c.args.number block of.0 c.in-Some.ensures.block c.load_block.ensures.reads.grown of.1 c.requires.number.1
+    (at_both old a b (IsOfBlock block of.0) c.load_block.ensures.reads.grown (loads_nothing old a 1 once.0 [] (IsOfBlock block of.0) once.2) of.2)
+
+pub returns-in_default-clause-whole : goal.returns-in_default-clause-whole
+returns-in_default-clause-whole c = none_whole c.args.board.now.shape c.args.caller.now.account c.open_block.new.caller.account c.args.front c.args.number (c.open_block.ensures.none c.in_default.is)
+
+pub returns-in_err-mol-clause-whole : goal.returns-in_err-mol-clause-whole
+returns-in_err-mol-clause-whole c =
+    let old = c.args.caller.now.account in
+    let a = c.open_block.new.caller.account in
+    let b = c.load_block.new.caller.account in
+    let of = c.load_block.ensures.of_block in
+    live_whole c.args.board.now.shape old a b c.args.front c.args.number c.in-Some.block of.0 c.in-Some.ensures.block c.load_block.ensures.reads.grown of.1
+    (λ i is. word_since old a b (c.in-Some.block + i) c.open_block.ensures.reads.grown (of.3 i is))
+
+pub returns-clause-whole : goal.returns-clause-whole
+returns-clause-whole c =
+    let old = c.args.caller.now.account in
+    let a = c.open_block.new.caller.account in
+    let b = c.load_block.new.caller.account in
+    let of = c.load_block.ensures.of_block in
+    live_whole c.args.board.now.shape old a b c.args.front c.args.number c.in-Some.block of.0 c.in-Some.ensures.block c.load_block.ensures.reads.grown of.1
+    (λ i is. word_since old a b (c.in-Some.block + i) c.open_block.ensures.reads.grown (of.3 i is))
