@@ -18,7 +18,7 @@ use Rattle.board_core.specs.ClassTree.{Place, IsBelow}
 use Rattle.board_core.specs.KnownPages.{IsMate}
 use Rattle.board_core.specs.Rows.{entry_word, own_codes, HasRow}
 use Rattle.board_core.specs.After.{visited}
-use Rattle.board_core.specs.LogWord.{kind_in, target_in}
+use Rattle.board_core.specs.LogWord.{target_in, ShowsBlock}
 use Rattle.board_core.specs.declared.loads.CodeLoad.{CodeLoad}
 use Rattle.board_core.specs.Blocks.{ended_at, block_size, atoms_in, code_words_at, bond_words_at}
 use Rattle.board_core.specs.Records.{code_word_at}
@@ -37,7 +37,7 @@ pub record HasLogWord (k : Shape) (a : Account) (number word : ℕ) : Type 0 whe
 pub record HasLoaded (k : Shape) (a : Account) (number block : ℕ) : Type 0 where
   pub word : ℕ
   pub log : HasLogWord k a number word
-  pub kind : ¬ (kind_in word ≡ 2)
+  pub kind : ShowsBlock word
   pub names : target_in word ≡ block
 
 -- some log word that was loaded publishes it
