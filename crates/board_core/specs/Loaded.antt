@@ -106,6 +106,10 @@ pub record Grows (a b : Account) : Type 0 where
   pub facts : (j : ℕ) (x : WordLoad) → get_elem? a.loads.facts j ≡ some x → get_elem? b.loads.facts j ≡ some x
   pub codes : (j : ℕ) (x : CodeLoad) → get_elem? a.loads.codes j ≡ some x → get_elem? b.loads.codes j ≡ some x
   pub fronts : (j x : ℕ) → get_elem? a.loads.fronts j ≡ some x → get_elem? b.loads.fronts j ≡ some x
+  pub epochs : (j x : ℕ) → get_elem? a.loads.epochs j ≡ some x → get_elem? b.loads.epochs j ≡ some x
+  pub announcements : (j x : ℕ) → get_elem? a.loads.announcements j ≡ some x → get_elem? b.loads.announcements j ≡ some x
+  pub states : (j : ℕ) (x : StateLoad) → get_elem? a.loads.states j ≡ some x → get_elem? b.loads.states j ≡ some x
+  pub lost : (j : ℕ) (x : StateLoad) → get_elem? a.loads.lost j ≡ some x → get_elem? b.loads.lost j ≡ some x
   pub entries : (j : ℕ) (x : Noted) → get_elem? a.entries j ≡ some x → get_elem? b.entries j ≡ some x
 
 -- ---- pages and epochs
