@@ -35,8 +35,9 @@ pub(crate) struct Answer<E> {
 
 impl<E: Answers> Play<(), View> for Answer<E> {
     ghost use Rattle.board_core.specs.Steps.{Answers};
+    ghost use Rattle.board_core.specs.Boards.{OnBoard};
 
-    ghost then = { Answers E.entries };
+    ghost then = { OnBoard (Answers E.entries) };
 }
 
 pub(crate) struct LoadFront;

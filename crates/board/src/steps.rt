@@ -5,8 +5,9 @@ ghost use Rattle.htss_defs.specs.declared.history.Event.TheVariants.{Withdraw};
 ghost use Rattle.board_core.specs.declared.entry.Entry.{Entry};
 ghost use Rattle.board_core.specs.declared.log.Holding.TheVariants.{Fronted};
 ghost use Rattle.board_core.specs.Accounts.{nothing};
+ghost use Rattle.board_core.specs.Boards.{SomeBoard};
 ghost use Rattle.board_core.specs.LogRule.{word_or_0};
-ghost use Rattle.board_core.specs.LogWord.{kind_in, target_in};
+ghost use Rattle.board_core.specs.LogWord.{target_in, ShowsBlock};
 ghost use Rattle.board_core.specs.Loaded.{IsInTable};
 ghost use Rattle.board_core.specs.Words.{log_at};
 ghost use Rattle.board_core.specs.Steps.{MayTake, MayFree, MayLog, AreTrue};
@@ -70,7 +71,8 @@ pub fn free_lock<E: Answers>(board: &Board, caller: &mut Caller)
 pub fn note_answers<E: Answers>(board: &Board, caller: &mut Caller)
     requires fits { IsOf board.now caller.old }
     requires answers { AreTrue board.now.shape caller.old.account E.entries }
-    ensures { caller.new ≡ with_account caller.old (after_answer caller.old.account E.entries) }
+    ensures after { caller.new ≡ with_account caller.old (after_answer caller.old.account E.entries) }
+    ensures before { SomeBoard board.now.shape caller.old.account }
 {
     board.table.shared.load::<Answer<E>>(&mut caller.seat, 1);
 }
@@ -94,7 +96,7 @@ pub fn load_log_word(board: &Board, caller: &mut Caller, number: u32) -> u64
     requires number { (0 < number) × (number ≤ caller.old.account.log.seen) }
     requires room { number ≤ board.now.shape.log }
     ensures after { caller.new ≡ with_account caller.old (after_shown caller.old.account (log_at board.now.shape + (number - 1)) result) }
-    ensures block { ¬ (kind_in result ≡ 2) → IsInTable board.now.shape (target_in result) }
+    ensures block { ShowsBlock result → IsInTable board.now.shape (target_in result) }
 {
     let at = log_place(board.shape) + (number as usize - 1);
     board.table.shared.load::<LoadLogWord>(&mut caller.seat, at)

@@ -18,7 +18,7 @@ use Rattle.board_core.specs.Steps.{Agrees, MayBe}
 -- ---- accounts that grow
 
 pub grows_same : (a : Account) → Grows a a
-grows_same a = record { seen = omega arith; shown = λ j x there. there; heads = λ j x there. there; marks = λ j x there. there; facts = λ j x there. there; codes = λ j x there. there; fronts = λ j x there. there; entries = λ j x there. there }
+grows_same a = record { seen = omega arith; shown = λ j x there. there; heads = λ j x there. there; marks = λ j x there. there; facts = λ j x there. there; codes = λ j x there. there; fronts = λ j x there. there; epochs = λ j x there. there; announcements = λ j x there. there; states = λ j x there. there; lost = λ j x there. there; entries = λ j x there. there }
 
 pub grows_trans : (a b c : Account) → Grows a b → Grows b c → Grows a c
 grows_trans a b c f g = let first = f.seen in let second = g.seen in record {
@@ -29,6 +29,10 @@ grows_trans a b c f g = let first = f.seen in let second = g.seen in record {
   facts = λ j x there. g.facts j x (f.facts j x there);
   codes = λ j x there. g.codes j x (f.codes j x there);
   fronts = λ j x there. g.fronts j x (f.fronts j x there);
+  epochs = λ j x there. g.epochs j x (f.epochs j x there);
+  announcements = λ j x there. g.announcements j x (f.announcements j x there);
+  states = λ j x there. g.states j x (f.states j x there);
+  lost = λ j x there. g.lost j x (f.lost j x there);
   entries = λ j x there. g.entries j x (f.entries j x there);
 }
 
@@ -50,10 +54,14 @@ grows_quiet a b seen same entries = record {
   facts = λ j x there. subst (λ (l : Loads). get_elem? l.facts j ≡ some x) (sym same) there;
   codes = λ j x there. subst (λ (l : Loads). get_elem? l.codes j ≡ some x) (sym same) there;
   fronts = λ j x there. subst (λ (l : Loads). get_elem? l.fronts j ≡ some x) (sym same) there;
+  epochs = λ j x there. subst (λ (l : Loads). get_elem? l.epochs j ≡ some x) (sym same) there;
+  announcements = λ j x there. subst (λ (l : Loads). get_elem? l.announcements j ≡ some x) (sym same) there;
+  states = λ j x there. subst (λ (l : Loads). get_elem? l.states j ≡ some x) (sym same) there;
+  lost = λ j x there. subst (λ (l : Loads). get_elem? l.lost j ≡ some x) (sym same) there;
 }
 
 pub grows_front : (a : Account) (front : ℕ) → a.log.seen ≤ front → Grows a (after_front a front)
-grows_front a front later = record { seen = later; shown = λ j x there. there; heads = λ j x there. there; marks = λ j x there. there; facts = λ j x there. there; codes = λ j x there. there; fronts = λ j x there. at_longer a.loads.fronts (front ∷ []) j x there; entries = λ j x there. there }
+grows_front a front later = record { seen = later; shown = λ j x there. there; heads = λ j x there. there; marks = λ j x there. there; facts = λ j x there. there; codes = λ j x there. there; fronts = λ j x there. at_longer a.loads.fronts (front ∷ []) j x there; epochs = λ j x there. there; announcements = λ j x there. there; states = λ j x there. there; lost = λ j x there. there; entries = λ j x there. there }
 
 pub grows_shown : (a : Account) (place word : ℕ) → Grows a (after_shown a place word)
 grows_shown a place word = let same = grows_same a in record {
@@ -64,6 +72,10 @@ grows_shown a place word = let same = grows_same a in record {
   facts = same.facts;
   codes = same.codes;
   fronts = same.fronts;
+  epochs = same.epochs;
+  announcements = same.announcements;
+  states = same.states;
+  lost = same.lost;
   entries = same.entries;
 }
 
@@ -76,6 +88,10 @@ grows_head a place word = let same = grows_same a in record {
   facts = same.facts;
   codes = same.codes;
   fronts = same.fronts;
+  epochs = same.epochs;
+  announcements = same.announcements;
+  states = same.states;
+  lost = same.lost;
   entries = same.entries;
 }
 
@@ -88,6 +104,10 @@ grows_mark a place word = let same = grows_same a in record {
   facts = same.facts;
   codes = same.codes;
   fronts = same.fronts;
+  epochs = same.epochs;
+  announcements = same.announcements;
+  states = same.states;
+  lost = same.lost;
   entries = same.entries;
 }
 
@@ -100,6 +120,10 @@ grows_fact a place word = let same = grows_same a in record {
   facts = λ j x there. at_longer a.loads.facts (record { place = place; word = word } ∷ []) j x there;
   codes = same.codes;
   fronts = same.fronts;
+  epochs = same.epochs;
+  announcements = same.announcements;
+  states = same.states;
+  lost = same.lost;
   entries = same.entries;
 }
 
@@ -112,6 +136,10 @@ grows_code a row code word = let same = grows_same a in record {
   facts = same.facts;
   codes = λ j x there. at_longer a.loads.codes (record { row = row; code = code; word = word } ∷ []) j x there;
   fronts = same.fronts;
+  epochs = same.epochs;
+  announcements = same.announcements;
+  states = same.states;
+  lost = same.lost;
   entries = same.entries;
 }
 

@@ -6,7 +6,7 @@ use Rattle.htss_defs.specs.declared.history.Event.TheVariants.{Publish, Withdraw
 use Rattle.htss_defs.specs.Molecule.{Molecule}
 use Rattle.htss_defs.specs.History.{Publishes, Withdraws}
 use Rattle.board_core.specs.Words.{Parts, regions_at}
-use Rattle.board_core.specs.LogWord.{kind_in, loader_in, target_in}
+use Rattle.board_core.specs.LogWord.{kind_in, loader_in, target_in, EndsNumber}
 use Rattle.board_core.specs.Blocks.{name_in, molecule_in, first_of}
 
 -- the words of the block at this place of the table
@@ -54,4 +54,4 @@ MayFollow h (Withdraw caller number) = IsOpen h number
 
 -- the same, of the event that a log word shows, whatever the regions are
 abbrev pub MayShow : List Event → ℕ → Type 0
-MayShow h word = kind_in word ≡ 2 → IsOpen h (target_in word)
+MayShow h word = EndsNumber word → IsOpen h (target_in word)

@@ -18,7 +18,7 @@ use Rattle.board_core.specs.ClassTree.{Place, IsBelow}
 use Rattle.board_core.specs.KnownPages.{IsMate}
 use Rattle.board_core.specs.Rows.{entry_word, own_codes, HasRow}
 use Rattle.board_core.specs.After.{visited}
-use Rattle.board_core.specs.LogWord.{kind_in, target_in}
+use Rattle.board_core.specs.LogWord.{target_in, ShowsBlock}
 use Rattle.board_core.specs.declared.loads.CodeLoad.{CodeLoad}
 use Rattle.board_core.specs.Blocks.{ended_at, block_size, atoms_in, code_words_at, bond_words_at}
 use Rattle.board_core.specs.Records.{code_word_at}
@@ -37,7 +37,7 @@ pub record HasLogWord (k : Shape) (a : Account) (number word : ℕ) : Type 0 whe
 pub record HasLoaded (k : Shape) (a : Account) (number block : ℕ) : Type 0 where
   pub word : ℕ
   pub log : HasLogWord k a number word
-  pub kind : ¬ (kind_in word ≡ 2)
+  pub kind : ShowsBlock word
   pub names : target_in word ≡ block
 
 -- some log word that was loaded publishes it
@@ -106,6 +106,10 @@ pub record Grows (a b : Account) : Type 0 where
   pub facts : (j : ℕ) (x : WordLoad) → get_elem? a.loads.facts j ≡ some x → get_elem? b.loads.facts j ≡ some x
   pub codes : (j : ℕ) (x : CodeLoad) → get_elem? a.loads.codes j ≡ some x → get_elem? b.loads.codes j ≡ some x
   pub fronts : (j x : ℕ) → get_elem? a.loads.fronts j ≡ some x → get_elem? b.loads.fronts j ≡ some x
+  pub epochs : (j x : ℕ) → get_elem? a.loads.epochs j ≡ some x → get_elem? b.loads.epochs j ≡ some x
+  pub announcements : (j x : ℕ) → get_elem? a.loads.announcements j ≡ some x → get_elem? b.loads.announcements j ≡ some x
+  pub states : (j : ℕ) (x : StateLoad) → get_elem? a.loads.states j ≡ some x → get_elem? b.loads.states j ≡ some x
+  pub lost : (j : ℕ) (x : StateLoad) → get_elem? a.loads.lost j ≡ some x → get_elem? b.loads.lost j ≡ some x
   pub entries : (j : ℕ) (x : Noted) → get_elem? a.entries j ≡ some x → get_elem? b.entries j ≡ some x
 
 -- ---- pages and epochs

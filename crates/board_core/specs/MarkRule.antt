@@ -11,7 +11,7 @@ use Rattle.board_core.specs.declared.log.Pending.{Pending}
 use Rattle.board_core.specs.declared.room.RoomAccount.{RoomAccount}
 use Rattle.board_core.specs.declared.room.Sealed.{Sealed}
 use Rattle.board_core.specs.Each.{Each}
-use Rattle.board_core.specs.LogWord.{kind_in, target_in}
+use Rattle.board_core.specs.LogWord.{target_in, ShowsBlock, EndsNumber}
 use Rattle.board_core.specs.Blocks.{shown_at, ended_at}
 use Rattle.board_core.specs.Histories.{block_at}
 use Rattle.board_core.specs.Accounts.{EachAccount}
@@ -21,14 +21,14 @@ use Rattle.board_core.specs.RoomRule.{IsSealed, SomeAccount}
 pub record ShowsAt (front : ℕ) (slots : ℕ → ℕ) (block number : ℕ) : Type 0 where
   pub above : 0 < number
   pub within : number ≤ front
-  pub kind : ¬ (kind_in (slots (number - 1)) ≡ 2)
+  pub kind : ShowsBlock (slots (number - 1))
   pub names : target_in (slots (number - 1)) ≡ block
 
 -- and withdraws a publication of this block
 pub record EndsAt (front : ℕ) (slots : ℕ → ℕ) (block number : ℕ) : Type 0 where
   pub above : 0 < number
   pub within : number ≤ front
-  pub kind : kind_in (slots (number - 1)) ≡ 2
+  pub kind : EndsNumber (slots (number - 1))
   pub shown : ShowsAt front slots block (target_in (slots (number - 1)))
 
 -- a mark is n exactly where event n is the one, or n is the front + 1 and some caller has it pending
@@ -47,8 +47,8 @@ is_ended_by block a = (e : Ending) × (a.log.pending.ends ≡ Some e) × (e.bloc
 pub record PendingFits (k : Shape) (regions : ℕ → ℕ) (front : ℕ) (slots : ℕ → ℕ) (p : Pending) : Type 0 where
   pub shows : (block : ℕ) → p.shows ≡ Some block → (p.ends ≡ None) × (block_at k regions block shown_at ≡ front + 1)
   pub ends : (e : Ending) → p.ends ≡ Some e → ShowsAt front slots e.block e.target × (block_at k regions e.block ended_at ≡ front + 1)
-  pub publication : (word : ℕ) → p.logged ≡ Some word → ¬ (kind_in word ≡ 2) → p.shows ≡ Some (target_in word)
-  pub withdrawal : (word : ℕ) → p.logged ≡ Some word → kind_in word ≡ 2 → (e : Ending) × (p.ends ≡ Some e) × (e.target ≡ target_in word)
+  pub publication : (word : ℕ) → p.logged ≡ Some word → ShowsBlock word → p.shows ≡ Some (target_in word)
+  pub withdrawal : (word : ℕ) → p.logged ≡ Some word → EndsNumber word → (e : Ending) × (p.ends ≡ Some e) × (e.target ≡ target_in word)
 
 -- the place of a block is among these
 abbrev pub IsAmong : List ℕ → ℕ → Type 0

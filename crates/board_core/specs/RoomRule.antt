@@ -13,7 +13,7 @@ use Rattle.board_core.specs.declared.room.Sealed.{Sealed}
 use Rattle.board_core.specs.declared.room.RoomAccount.{RoomAccount}
 use Rattle.board_core.specs.Each.{Each}
 use Rattle.board_core.specs.Words.{regions_at}
-use Rattle.board_core.specs.LogWord.{kind_in, loader_in, target_in}
+use Rattle.board_core.specs.LogWord.{loader_in, target_in, ShowsBlock}
 use Rattle.board_core.specs.Blocks.{block_size}
 use Rattle.board_core.specs.Accounts.{EachAccount, accounts_in}
 
@@ -68,7 +68,7 @@ pub record RoomFits (k : Shape) (regions : ℕ → ℕ) (a : Store) : Type 0 whe
   pub sealed : Each (SealedFits (region_of k a.who) a.room.used) a.room.sealed
   pub in_order : AreInOrder a.room.sealed
   pub shows : (block : ℕ) → a.pending.shows ≡ Some block → IsSealed a.room.sealed block
-  pub logged : (word : ℕ) → a.pending.logged ≡ Some word → ¬ (kind_in word ≡ 2) → IsSealed a.room.sealed (target_in word)
+  pub logged : (word : ℕ) → a.pending.logged ≡ Some word → ShowsBlock word → IsSealed a.room.sealed (target_in word)
 
 -- some account of some view
 abbrev pub SomeAccount : (Account → Type 0) → List View → Type 0
@@ -80,7 +80,7 @@ ShowsSealed word a = (a.who ≡ Loader (loader_in word)) × IsSealed a.room.seal
 
 pub record RoomRule (k : Shape) (regions : ℕ → ℕ) (front : ℕ) (slots : ℕ → ℕ) (vs : List View) : Type 0 where
   pub rooms : EachAccount (λ a. RoomFits k regions (store_of a)) vs
-  pub named : (i : ℕ) → i < front → ¬ (kind_in (slots i) ≡ 2) → SomeAccount (ShowsSealed (slots i)) vs
+  pub named : (i : ℕ) → i < front → ShowsBlock (slots i) → SomeAccount (ShowsSealed (slots i)) vs
 
 -- words of sealed blocks other than marks are as they were
 abbrev pub SameSealed : Shape → (ℕ → ℕ) → (ℕ → ℕ) → List View → Type 0

@@ -35,7 +35,7 @@ use Rattle.board_core.specs.Sheets.{owns}
 use Rattle.board_core.specs.StateRule.{StatesStand}
 use Rattle.board_core.specs.ChainRule.{IsToldChain}
 use Rattle.board_core.specs.EpochRule.{IsPast, last_epoch}
-use Rattle.board_core.specs.LogWord.{kind_in, publication_word, target_in, withdrawal_word}
+use Rattle.board_core.specs.LogWord.{publication_word, target_in, withdrawal_word, ShowsBlock}
 use Rattle.board_core.specs.After.{visited, after_begun, after_linked, after_inner, after_split, after_entry, after_own, after_walk, after_slot, after_link, after_more, after_epoch, after_advance, after_pin, after_unpin, after_pass, after_state, after_lost, after_page, after_retire, after_code, after_fact, after_head, after_mark, after_word, noted, after_take, after_free, after_answer, after_front, after_shows, after_ends, after_logged, after_event, after_shown, after_next}
 use Rattle.board_core.specs.PublishedRule.{AllPlaced}
 use Rattle.board_core.specs.CountRule.{most_linked, most_own, insertions_of}
@@ -294,8 +294,8 @@ after_claim a (InnerBehind j n c) = after_next a j n c
 -- what the rule says of the blocks that the events show: each shows a record, and its last mark is the number of the event, if any,
 -- that withdraws it
 pub record KnownBlocks (k : Shape) (p : Parts) : Type 0 where
-  pub records : (i : ℕ) → i < p.log.front → ¬ (kind_in (p.log.slots i) ≡ 2) → IsRecord (block_at k p.regions (target_in (p.log.slots i)))
-  pub marks : (i at : ℕ) → i < p.log.front → ¬ (kind_in (p.log.slots i) ≡ 2) → 0 < at → at ≤ p.log.front
+  pub records : (i : ℕ) → i < p.log.front → ShowsBlock (p.log.slots i) → IsRecord (block_at k p.regions (target_in (p.log.slots i)))
+  pub marks : (i at : ℕ) → i < p.log.front → ShowsBlock (p.log.slots i) → 0 < at → at ≤ p.log.front
       → (block_at k p.regions (target_in (p.log.slots i)) ended_at ≡ at ↔ Withdraws (history_of k p) at (i + 1))
 
 -- what the rule says of the words alone
@@ -384,7 +384,7 @@ ShowsEvent e s m found n = n ≡ became m (after_event m.0.me e)
 -- a log word was loaded; where it publishes a block, that is in the table
 pub record LoadsLog (s : Step (Unit {0})) (m : Mine) (found : ℕ) (n : Mine) : Type 0 where
   pub after : n ≡ became m (after_shown m.0.me s.word found)
-  pub block : ¬ (kind_in found ≡ 2) → IsInTable m.0.shape (target_in found)
+  pub block : ShowsBlock found → IsInTable m.0.shape (target_in found)
 
 -- the first word of a block was loaded; all of the block is in the table. The words may be those of some board
 pub record LoadsHead (s : Step (Unit {0})) (m : Mine) (found : ℕ) (n : Mine) : Type 0 where

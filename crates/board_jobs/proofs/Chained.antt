@@ -80,7 +80,6 @@ pub record IsFreed (b : Place) (a x : Account) : Type 0 where
   pub holding : x.log.holding ≡ Away
   pub pool : x.pool ≡ a.pool
   pub who : x.who ≡ a.who
-  pub room : length x.room.used ≤ b.shape.room
 
 -- what it keeps stays in its stock
 pub stocked_after : (c d : Seated) → d.account.pool ≡ c.account.pool → d.stock ≡ c.stock → IsStocked c → IsStocked d
@@ -111,7 +110,6 @@ pub work_after : (b : Place) (old new : Seated) (x : Account) → new ≡ with_a
 work_after b old new x is work f = subst (IsAtWork b) (sym is) record {
   of = record { table = work.of.table; shape = work.of.shape };
   ready = ready_after b old (with_account old x) work.ready refl f;
-  room = f.room;
 }
 
 pub goes_on-after : (b : Place) (old new : Seated) (x : Account) (answer : Answer) → new ≡ with_account old x → IsAtWork b old → IsFreed b old.account x → Answers b.shape old.account new.account answer → GoesOn b old new

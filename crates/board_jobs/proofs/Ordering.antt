@@ -23,9 +23,6 @@ use Rattle.board_jobs.specs.Jobs.{IsReady, IsFor, IsJobDone, IsJobBroken, IsQuie
 use Rattle.board_jobs.specs.Calls.{IsAtWork, IsBegun, IsLoaded, IsOrderOf, IsSearched, IsWithdrawal, SearchBroke}
 use Rattle.board_jobs.proofs.Chained.{answered_one}
 
-pub at_work : (b : Place) (c : Seated) → IsOf b c → IsReady c → length c.account.room.used ≤ b.shape.room → IsAtWork b c
-at_work b c of ready room = record { of = of; ready = ready; room = room }
-
 -- a script's caller that an order is for may do it
 pub order_of : (c : Seated) (o : Order) (d : Caller) → who_of d ≡ c.account.who → IsFor d o → IsOrderOf c o
 order_of c (order.Load file) (loader n) same is = subst (λ (w : Who). w ≡ Loader (number_in w)) same refl

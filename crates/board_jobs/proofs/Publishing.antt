@@ -76,11 +76,10 @@ staged_is : (a d : Account) (s : Staging) → HasStaged a d s → IsPrepared a d
 staged_is a d s rows = prepared a d s s.block (length s.mol.atoms) (length s.mol.atoms) [] (omega arith) rows (ap answers_in (rows.entries ∙ append-nil a.entries) ∙ sym (append-nil (answers_in a.entries)))
 
 -- the caller may go on
-prepared_work : (b : Place) (c d : Seated) (s : Staging) (es : List Entry) → IsAtWork b c → IsOf b d → IsStocked d → length c.account.room.used + size_of s.name s.mol ≤ b.shape.room → IsPrepared c.account d.account s es → IsAtWork b d
-prepared_work b c d s es work of stocked room is = let size = block_size (named s) in let used = is.used in record {
+prepared_work : (b : Place) (c d : Seated) (s : Staging) (es : List Entry) → IsAtWork b c → IsOf b d → IsStocked d → IsPrepared c.account d.account s es → IsAtWork b d
+prepared_work b c d s es work of stocked is = record {
   of = of;
   ready = record { free = ap (λ (l : LogAccount). l.holding) is.log ∙ work.ready.free; unpinned = is.unpinned; stocked = stocked };
-  room = omega arith;
 }
 
 has_room : (k : Shape) (a : Account) (s : Staging) → length a.room.used + size_of s.name s.mol ≤ k.room → HasRoomFor k (length a.room.used) (named s)
@@ -163,7 +162,7 @@ had_room : (b : Place) (c d : Seated) (name : List ℕ) (mol : Molecule) (s : St
 had_room b c d name mol s was = subst (λ (z : Staging). length c.account.room.used + size_of z.name z.mol ≤ b.shape.room) (sym was.staged) was.room
 
 staged_work : (b : Place) (c d : Seated) (name : List ℕ) (mol : Molecule) (s : Staging) → WasStaged b c d name mol s → IsAtWork b d
-staged_work b c d name mol s was = prepared_work b c d s [] was.work was.of was.stocked (had_room b c d name mol s was) (staged_is c.account d.account s was.added)
+staged_work b c d name mol s was = prepared_work b c d s [] was.work was.of was.stocked (staged_is c.account d.account s was.added)
 
 pub taken-full : (b : Place) (c d f : Seated) (place : ℕ) (name : List ℕ) (mol : Molecule) (s : Staging) (front told : ℕ) → WasStaged b c d name mol s → told ≡ front → front ≡ b.shape.log → d.account.log.seen ≤ front
     → f ≡ with_account d (after_free (locked d.account front) (LogFull front ∷ [])) → IsTaken b.shape c.account f.account place (record { name = name; mol = mol }) (line.LogFull place told)
@@ -208,7 +207,7 @@ on-full b c d f place name mol s front told was at full later is =
     let took = taken-full b c d f place name mol s front told was at full later is in
     let work = staged_work b c d name mol s was in
     goes_on-one b c f (to_record (taken (record { name = name; mol = mol }) took.fate))
-    (work_after b d f (after_free (locked d.account front) (LogFull front ∷ [])) is work (record { holding = refl; pool = refl; who = refl; room = work.room }))
+    (work_after b d f (after_free (locked d.account front) (LogFull front ∷ [])) is work (record { holding = refl; pool = refl; who = refl }))
     (ap (λ (x : Seated). x.account.who) is ∙ was.added.who) took.answers
 
 pub on-published : (b : Place) (c d f : Seated) (place : ℕ) (name : List ℕ) (mol : Molecule) (s : Staging) (front number : ℕ) → WasStaged b c d name mol s → number ≡ front + 1 → d.account.log.seen ≤ front
@@ -217,15 +216,16 @@ on-published b c d f place name mol s front number was next later is =
     let took = taken-published b c d f place name mol s front number was next later is in
     let work = staged_work b c d name mol s was in
     goes_on-one b c f (to_record (taken (record { name = name; mol = mol }) took.fate))
-    (work_after b d f (after_publication (locked d.account front) (number_in d.account.who) s) is work (record { holding = refl; pool = refl; who = refl; room = work.room }))
+    (work_after b d f (after_publication (locked d.account front) (number_in d.account.who) s) is work (record { holding = refl; pool = refl; who = refl }))
     (ap (λ (x : Seated). x.account.who) is ∙ was.added.who) took.answers
 
 -- ---- the record is not staged
 
-room-answers : (k : Shape) (a : Account) (s : Staging) (left need : ℕ) → length a.room.used ≤ k.room → IsFull k a s left need → Answers k a (after_answer a (DataFull left need ∷ [])) (to_record (taken (named s) (no_room left need)))
-room-answers k a s left need room full c who =
+room-answers : (k : Shape) (a : Account) (s : Staging) (left need : ℕ) → IsFull k a s left need → Answers k a (after_answer a (DataFull left need ∷ [])) (to_record (taken (named s) (no_room left need)))
+room-answers k a s left need full c who =
     let b = after_answer a (DataFull left need ∷ []) in
     let left_is = full.left_is in
+    let room = full.within in
     let less = full.less in record {
       who = refl;
       noted_are = told_one a b (DataFull left need) refl refl;
@@ -276,7 +276,7 @@ taken-refused b c d place name mol (stage.DataFull left need) work (full, is) ro
     let s = staging b.shape c.account name mol in record {
       fate = no_room left need;
       line_is = refl;
-      answers = subst (λ (x : Seated). Answers b.shape c.account x.account (to_record (taken (named s) (no_room left need)))) (sym is) (room-answers b.shape c.account s left need work.room full);
+      answers = subst (λ (x : Seated). Answers b.shape c.account x.account (to_record (taken (named s) (no_room left need)))) (sym is) (room-answers b.shape c.account s left need full);
     }
 taken-refused b c d place name mol stage.NoPage work stopped room =
     let s = staging b.shape c.account name mol in record {
@@ -294,15 +294,15 @@ taken-refused b c d place name mol (stage.ChainFull pages) work stopped room =
 refused_work : (b : Place) (c d : Seated) (name : List ℕ) (mol : Molecule) (e : StageError) → IsAtWork b c → IsOf b d → IsStocked d → IsRefused b.shape c d (staging b.shape c.account name mol) e → HasRoomBut b.shape c.account (staging b.shape c.account name mol) e
     → IsAtWork b d × (d.account.who ≡ c.account.who)
 refused_work b c d name mol (stage.DataFull left need) work of stocked (full, is) room =
-    (work_after b c d (after_answer c.account (DataFull left need ∷ [])) is work (record { holding = work.ready.free; pool = refl; who = refl; room = work.room }), ap (λ (x : Seated). x.account.who) is)
+    (work_after b c d (after_answer c.account (DataFull left need ∷ [])) is work (record { holding = work.ready.free; pool = refl; who = refl }), ap (λ (x : Seated). x.account.who) is)
 refused_work b c d name mol stage.NoPage work of stocked stopped room =
     let s = staging b.shape c.account name mol in
     let is = prepared c.account d.account s s.block (stopped.count + 1) stopped.count (NoPage ∷ []) (let below = stopped.within in omega (arith, below)) stopped.left (told_one c.account d.account NoPage refl stopped.left.entries) in
-    (prepared_work b c d s (NoPage ∷ []) work of stocked room is, is.who)
+    (prepared_work b c d s (NoPage ∷ []) work of stocked is, is.who)
 refused_work b c d name mol (stage.ChainFull pages) work of stocked stopped room =
     let s = staging b.shape c.account name mol in
     let is = prepared c.account d.account s s.block (stopped.count + 1) stopped.count (ChainFull pages ∷ []) (let below = stopped.within in omega (arith, below)) stopped.left (told_one c.account d.account (ChainFull pages) refl stopped.left.entries) in
-    (prepared_work b c d s (ChainFull pages ∷ []) work of stocked room is, is.who)
+    (prepared_work b c d s (ChainFull pages ∷ []) work of stocked is, is.who)
 
 pub on-refused : (b : Place) (c d : Seated) (place : ℕ) (name : List ℕ) (mol : Molecule) (e : StageError) → IsAtWork b c → IsOf b d → IsStocked d → IsRefused b.shape c d (staging b.shape c.account name mol) e → HasRoomBut b.shape c.account (staging b.shape c.account name mol) e
     → GoesOn b c d

@@ -140,7 +140,7 @@ told-over b c d asked budget front later s rowed = (refl, over-answers b.shape c
 pub on-searched : (b : Place) (c d : Seated) (front : ℕ) (es : List Entry) (answer : Answer) → IsAtWork b c → IsOf b d → d.stock ≡ c.stock → Searched c.account d.account front es
     → Answers b.shape c.account d.account answer → GoesOn b c d
 on-searched b c d front es answer work of stock s answers =
-    goes_on-one b c d answer (record { of = of; ready = ready_searched c d front es work.ready stock s; room = subst (λ r. length r.used ≤ b.shape.room) (sym s.room) work.room }) s.who answers
+    goes_on-one b c d answer (record { of = of; ready = ready_searched c d front es work.ready stock s }) s.who answers
 
 pub on-hits : (b : Place) (c d : Seated) (asked : QueryGraph) (budget front : ℕ) (found : List Hit) (rows records : ℕ) → IsAtWork b c → IsOf b d → d.stock ≡ c.stock → c.account.log.seen ≤ front
     → Searched c.account d.account front (Answered asked budget front (reply.Hits found) ∷ []) → Whatever b.shape d.account front (λ h. Counts asked h records) → LoadsPruned asked c.account d.account rows → GoesOn b c d

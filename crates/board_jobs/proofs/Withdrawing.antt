@@ -149,6 +149,5 @@ on-withdrawn b c d e number front at es told work of stock locked called withdra
       holding = ap (λ l. l.holding) late.log;
       pool = late.pool;
       who = late.who;
-      room = subst (λ r. length r.used ≤ b.shape.room) (sym late.room) work.room;
     } in
-    goes_on-one b c e (to_withdrawal number told) (record { of = of; ready = ready_after b c e work.ready (stock ∙ ap (λ (x : Seated). x.stock) locked) freed; room = freed.room }) late.who withdrawal.answers
+    goes_on-one b c e (to_withdrawal number told) (record { of = of; ready = ready_after b c e work.ready (stock ∙ ap (λ (x : Seated). x.stock) locked) freed }) late.who withdrawal.answers

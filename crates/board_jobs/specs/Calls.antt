@@ -24,11 +24,10 @@ use Rattle.board_jobs.specs.Telling.{search_entries}
 use Rattle.board_jobs.specs.Answering.{who_of, IsAnswered, AreAnswered}
 use Rattle.board_jobs.specs.Jobs.{IsReady, IsQuietOrFor, AreFirstRecords}
 
--- one of the board's callers, ready for a call; what it has stored lies within its region
+-- one of the board's callers, ready for a call
 pub record IsAtWork (b : Place) (c : Seated) : Type 0 where
   pub of : IsOf b c
   pub ready : IsReady c
-  pub room : length c.account.room.used ≤ b.shape.room
 
 -- loads and withdrawals are a loader's
 abbrev pub IsOrderOf : Seated → Order → Type 0

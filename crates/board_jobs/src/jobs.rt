@@ -31,12 +31,10 @@ pub fn do_job<R: Wait>(
 ) -> Result<Block, OutOfMemory>
     requires fits { IsOf board.now caller.old }
     requires ready { IsReady caller.old }
-    requires room { length caller.old.account.room.used ≤ board.now.shape.room }
     requires file { IsThere files.now job.now.line job.now.order }
     requires order { IsOrderOf caller.old job.now.order }
     ensures of { IsOf board.now caller.new }
     ensures ready { IsReady caller.new }
-    ensures room { length caller.new.account.room.used ≤ board.now.shape.room }
     ensures who { caller.new.account.who ≡ caller.old.account.who }
     ensures done { IfOk result (λ block. (c : ScriptCaller) → who_of c ≡ caller.old.account.who
         → IsJobDone board.now.shape files.now budget c caller.old.account caller.new.account job.now block) }

@@ -27,14 +27,12 @@ pub new_at_work : (b : Place) (n : ℕ) (c : Seated) → IsNew b n c → IsAtWor
 new_at_work b n c new = record {
   of = new.of;
   ready = new_ready b n c new;
-  room = subst (λ (a : Account). length a.room.used ≤ b.shape.room) (sym new.account) (omega arith);
 }
 
 new_callers : (b : Place) (cs : List Seated) → length cs ≡ b.shape.loaders + b.shape.searchers → AreNew b cs → AreCallers b cs
 new_callers b cs count new = record {
   count = count;
   each = λ i c at. let work = new_at_work b i c (new i c at) in (work.of, ap (λ (x : Account). x.who) (new i c at).account, work.ready);
-  room = λ i c at. (new_at_work b i c (new i c at)).room;
 }
 
 nothing : (cs : List Seated) → length cs ≡ 0 → cs ≡ []

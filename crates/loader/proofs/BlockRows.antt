@@ -93,6 +93,10 @@ begun_grows k c d row more es h = let seen : d.account.log.seen ≡ c.account.lo
   facts = λ j x there. subst (λ (l : List WordLoad). get_elem? l j ≡ some x) (sym h.facts) there;
   fronts = λ j x there. subst (λ (l : List ℕ). get_elem? l j ≡ some x) (sym h.fronts) there;
   codes = h.grows.codes;
+  epochs = h.grows.epochs;
+  announcements = h.grows.announcements;
+  states = h.grows.states;
+  lost = h.grows.lost;
   entries = λ j x there. subst (λ (l : List Noted). get_elem? l j ≡ some x) (sym es) (at_longer c.account.entries more j x there);
 }
 

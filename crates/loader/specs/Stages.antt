@@ -83,6 +83,7 @@ pub record WasStopped (k : Shape) (c d : Seated) (block atoms : ℕ) (e : Insert
 
 -- fewer words are left than the block needs, and the numbers are these
 pub record IsFull (k : Shape) (a : Account) (s : Staging) (left need : ℕ) : Type 0 where
+  pub within : length a.room.used ≤ k.room
   pub left_is : left ≡ left_in k a
   pub need_is : need ≡ size_of s.name s.mol
   pub less : left < need

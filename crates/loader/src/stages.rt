@@ -2,6 +2,7 @@ ghost use Rattle.std.specs.Prelude.{◌≡◌, ◌≢◌, ◌+◌, ◌-◌, ◌<
 ghost use Rattle.htss_defs.specs.Marked.{IsMarked};
 ghost use Rattle.board_core.specs.declared.entry.Entry.TheVariants.{DataFull};
 ghost use Rattle.board_core.specs.Blocks.{first_of};
+ghost use Rattle.board_core.specs.Boards.{SomeBoard};
 ghost use Rattle.board_core.specs.Each.{Each};
 ghost use Rattle.board_core.specs.RoomRule.{IsSealed};
 ghost use Rattle.board_core.specs.Steps.{AreTrue, IsKnownRoom};
@@ -119,7 +120,8 @@ pub fn stage_with(
 fn note_with<E: Answers>(board: &Board, caller: &mut Caller, _left: u32, _need: u32)
     requires fits { IsOf board.now caller.old }
     requires answers { AreTrue board.now.shape caller.old.account E.entries }
-    ensures { caller.new ≡ with_account caller.old (after_answer caller.old.account E.entries) }
+    ensures after { caller.new ≡ with_account caller.old (after_answer caller.old.account E.entries) }
+    ensures before { SomeBoard board.now.shape caller.old.account }
 {
     note_answers::<E>(board, caller);
 }
@@ -131,6 +133,7 @@ fn note_full(board: &Board, caller: &mut Caller, left: u32, need: u32)
     requires less { left < need }
     requires loader { IsLoader caller.old }
     ensures after { caller.new ≡ with_account caller.old (after_answer caller.old.account (DataFull left need ∷ [])) }
+    ensures within { length caller.old.account.room.used ≤ board.now.shape.room }
     ensures of { IsOf board.now caller.new }
     ensures still { IsLoader caller.new }
 {

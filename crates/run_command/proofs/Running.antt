@@ -397,7 +397,6 @@ new_callers b callers count new = record {
   each = λ i c there.
       let one = new i c there in
       (one.of, ap (λ (a : Account). a.who) one.account, new_ready b i c one);
-  room = λ i c there. let one = new i c there in subst (λ (a : Account). length a.room.used ≤ b.shape.room) (sym one.account) (omega arith);
 }
 
 pub new_accounts : {G : Type 0} (b : Place) (workers : List (Worker G)) → length (callers_of workers) ≡ b.shape.loaders + b.shape.searchers → seated.AreNew b (callers_of workers) → AreNew b.shape (accounts_of workers)

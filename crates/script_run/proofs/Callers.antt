@@ -31,7 +31,7 @@ all_workers b cs all = λ i d below.
     let c = there cs i below in
     let here = all.each i c.0 c.1 in
     let one : IsWorker b c.0 = record {
-      can = record { of = here.0; ready = here.2; room = all.room i c.0 c.1 };
+      can = record { of = here.0; ready = here.2 };
       caller = caller_at b.shape i;
       who = who_there b cs all i c.0 c.1;
     } in
@@ -53,9 +53,6 @@ still_callers b cs ds all count same = record {
       let c = there cs i (omega (arith, inside ds i d e, count)) in
       let now = same i c.0 d c.1 e in
       (now.0.of, now.1 ∙ (all.each i c.0 c.1).1, now.0.ready);
-  room = λ i d e.
-      let c = there cs i (omega (arith, inside ds i d e, count)) in
-      (same i c.0 d c.1 e).0.room;
 }
 
 -- ---- when they have met
@@ -70,7 +67,6 @@ seen_callers b front cs all =
     let can : CanWork b (seen_at front c) = record {
       of = record { table = before.0.table; shape = before.0.shape };
       ready = record { free = before.2.free; unpinned = before.2.unpinned; stocked = stocked_after c (seen_at front c) refl refl before.2.stocked };
-      room = all.room i c here;
     } in
     let has : Seated → Type 0 = λ x. CanWork b x × (x.account.who ≡ c.account.who) in
     subst has old.2 (subst (λ (x : Seated). has (seen_at front x)) (sym same) (can, refl)))

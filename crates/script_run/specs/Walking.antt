@@ -16,11 +16,10 @@ use Rattle.board_jobs.specs.Jobs.{IsReady, IsJobBroken}
 use Rattle.script_run.specs.declared.walk.Outcome.{Outcome}
 use Rattle.script_run.specs.Working.{OwnBroken, OwnDone}
 
--- one of the board's callers, ready for a job; what it has stored lies within its region
+-- one of the board's callers, ready for a job
 pub record CanWork (b : Place) (c : Seated) : Type 0 where
   pub of : IsOf b c
   pub ready : IsReady c
-  pub room : length c.account.room.used ≤ b.shape.room
 
 -- it is a loader or a searcher
 pub record IsWorker (b : Place) (c : Seated) : Type 0 where

@@ -17,7 +17,6 @@ use Rattle.board_jobs.specs.Jobs.{IsReady, IsJobBroken}
 pub record AreCallers (b : Place) (callers : List Seated) : Type 0 where
   pub count : length callers ≡ b.shape.loaders + b.shape.searchers
   pub each : (i : ℕ) (c : Seated) → get_elem? callers i ≡ some c → IsOf b c × (c.account.who ≡ caller_after b.shape i) × IsReady c
-  pub room : (i : ℕ) (c : Seated) → get_elem? callers i ≡ some c → length c.account.room.used ≤ b.shape.room
 
 -- the caller's own among these jobs
 abbrev pub own_jobs : Caller → List Dealt → List Dealt

@@ -79,6 +79,10 @@ visits_of a mid e entries m more answers =
         facts = λ j x there. in_same a.loads.facts mid.loads.facts j x facts there;
         codes = λ j x there. in_more a.loads.codes mid.loads.codes m.codes j x m.codes_are there;
         fronts = λ j x there. in_same a.loads.fronts mid.loads.fronts j x fronts there;
+        epochs = λ j x there. in_more a.loads.epochs mid.loads.epochs (e ∷ []) j x (ap (λ (x : Account). x.loads.epochs) m.same) there;
+        announcements = λ j x there. in_same a.loads.announcements mid.loads.announcements j x (ap (λ (x : Account). x.loads.announcements) m.same) there;
+        states = λ j x there. in_same a.loads.states mid.loads.states j x (ap (λ (x : Account). x.loads.states) m.same) there;
+        lost = λ j x there. in_same a.loads.lost mid.loads.lost j x (ap (λ (x : Account). x.loads.lost) m.same) there;
         entries = more;
       };
       who = ap (λ (x : Account). x.who) m.same;

@@ -20,7 +20,7 @@ pub note_answers-requires-clause-answers : goal.note_answers-requires-clause-ans
 note_answers-requires-clause-answers c = none_true _ _ _ _ _ c.in-None.ensures.none
 
 pub returns-in-None-clause-none : goal.returns-in-None-clause-none
-returns-in-None-clause-none c = refused _ _ _ _ c.args.caller.now _ _ _ _ c.scan_callers-low.ensures.scanned c.scan_callers-low.ensures.low c.next_page-next.ensures.value c.in-None.ensures.none c.note_answers.ensures
+returns-in-None-clause-none c = refused _ _ _ _ c.args.caller.now _ _ _ _ c.scan_callers-low.ensures.scanned c.scan_callers-low.ensures.low c.next_page-next.ensures.value c.in-None.ensures.none c.note_answers.ensures.after
     (c.end_of_round.ensures.before ∙ ap (λ (k : Shape). page_before k.pages c.next_page-next.result) c.shape.ensures.value) c.begin_at-in-None.ensures
 
 pub returns-in-Some-clause-some : goal.returns-in-Some-clause-some
