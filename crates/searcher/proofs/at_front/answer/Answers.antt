@@ -12,6 +12,8 @@ use Rattle.searcher.proofs.Records.{numbers_read_nothing, screened_nothing, visi
 use Rattle.searcher.proofs.Whole.{all_after}
 use Rattle.searcher.proofs.Walks.{seen_still}
 use Rattle.searcher.proofs.Complete.{all_screened, notes_stay}
+use Rattle.searcher.proofs.Read.{reads_trans}
+use Rattle.searcher.proofs.Answered.{has_read}
 use Rattle.searcher.proofs.at_front.answer.Goals as goal
 
 pub numbers_in_order-requires-clause-known : goal.numbers_in_order-requires-clause-known
@@ -61,6 +63,14 @@ returns-in_default-numbers_in_order-clause-read c =
     let b = c.find_rows.new.caller.account in
     let d = c.numbers_in_order.new.caller.account in
     screened_nothing c.args.board.now.shape c.args.query.now c.args.front a d (numbers_read_nothing a b d (length c.deref.result.now) c.find_rows.ensures.visits c.numbers_in_order.ensures.once)
+
+pub returns-clause-reads : goal.returns-clause-reads
+returns-clause-reads c =
+    let a = c.args.caller.now.account in
+    let b = c.find_rows.new.caller.account in
+    let d = c.numbers_in_order.new.caller.account in
+    let e = c.fill.new.caller.account in
+    has_read a b e c.find_rows.ensures.visits (reads_trans b d e c.numbers_in_order.ensures.reads c.fill.ensures.reads)
 
 pub returns-clause-whole : goal.returns-clause-whole
 returns-clause-whole c =

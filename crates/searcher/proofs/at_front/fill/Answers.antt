@@ -26,6 +26,10 @@ loop-index-init c = record {
       c.new-search.ensures.asked c.new-search.ensures.front c.new-search.ensures.left c.new-search.ensures.records (ap (λ (h : HitsKept). h.hits) c.requires.empty);
 }
 
+pub returns-in_err-take_one-clause-reads : goal.returns-in_err-take_one-clause-reads
+returns-in_err-take_one-clause-reads c =
+    reads_trans c.args.caller.now.account c.loop-index.caller.account c.take_one.new.caller.account c.loop-index.invariant.reads c.take_one.ensures.reads
+
 pub returns-in_err-take_one-clause-once : goal.returns-in_err-take_one-clause-once
 returns-in_err-take_one-clause-once c =
     let more = c.loop-index-test.true in
