@@ -118,8 +118,8 @@ pub record IsRead (k : Shape) (a : Account) (r : RecordRead) : Type 0 where
 abbrev pub places_read : Account → List ℕ
 places_read a = map (λ (l : WordLoad). l.place) a.loads.facts
 
--- the second account has loaded such words of these records past the first, all of each and none twice: record after record, by rising
--- number
+-- the second account has loaded such words of these records past the first, all of each and none twice: record after
+-- record, by rising number
 pub record ReadsInTurn (k : Shape) (a b : Account) : Type 0 where
   pub reads : List RecordRead
   pub rising : (i j : ℕ) (x y : RecordRead) → i < j

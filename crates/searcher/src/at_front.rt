@@ -213,9 +213,9 @@ fn answer(
 /// embedding, how many records were screened, and how many rows were loaded. It answers the front. It is over budget only where the work
 /// of this search exceeds the budget, and always where the screened records have more atoms than that. After an error the list is empty.
 /// It descends in the class tree with the need of the query's pivot: the code words that it loads are pruned (`LoadsPruned`), none is
-/// loaded twice. The names, atoms and bonds that it loads are those of screened records (`ReadsScreened`), record after record by rising
-/// number and each word once (`ReadsInTurn`). It doesn't wait. The answer is true of every board that has what the caller has loaded by
-/// then.
+/// loaded twice. The names, atoms and bonds that it loads are those of screened records (`ReadsScreened`), record after
+/// record by rising number and each word once (`ReadsInTurn`). It doesn't wait. The answer is true of every board that
+/// has what the caller has loaded by then.
 pub fn search(
     alloc: Global,
     board: &Board,
