@@ -14,8 +14,9 @@ use Rattle.descent.specs.Pruned.{IsPruned, IsLoaded, CountsLoaded}
 use Rattle.descent.specs.Walks.{IsTold}
 use Rattle.descent.specs.Standing.{HasAtom, OnlyLoads}
 
--- from c to d these rows were given and noted, and so many rows were loaded. Whatever five codes the rows have that agree with the code
--- words loaded, these are pruned. A code of each row that was given was loaded, its block is in the table and has its atom
+-- from c to d these rows were given and noted, and so many rows were loaded. Whatever five codes the rows have that
+-- agree with the code words loaded, these are pruned. A code of each row that was given was loaded, its block is in the
+-- table and has its atom
 pub record HasSwept (k : Shape) (need : Need) (c d : Seated) (given : List Row) (count : ℕ) : Type 0 where
   pub between : Seated
   pub only : OnlyLoads c between

@@ -26,8 +26,8 @@ pub record HasAtom (a : Account) (r : Row) : Type 0 where
   pub above : 0 < r.atom
   pub most : r.atom ≤ atoms_in head
 
--- the caller has reached pages, and loaded codes and first words: each code is of an atom that its block has. Nothing else of it has
--- changed
+-- the caller has reached pages, and loaded codes and first words: each code is of an atom that its block has. Nothing
+-- else of it has changed
 pub record OnlyLoads (c d : Seated) : Type 0 where
   pub same : with_account d (rest d.account) ≡ with_account c (rest c.account)
   pub codes : List CodeLoad

@@ -12,3 +12,4 @@ pub mod Answered
 pub mod Records
 pub mod Screening
 pub mod Whole
+pub mod Turns

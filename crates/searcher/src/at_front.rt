@@ -10,7 +10,7 @@ ghost use Rattle.board_core.specs.declared.entry.Reply.TheVariants.{Hits, OverBu
 ghost use Rattle.board_core.specs.After.{after_answer};
 ghost use Rattle.board_core.specs.Steps.{AreTrue};
 ghost use Rattle.board.specs.Seated.{IsOf, with_account};
-ghost use Rattle.searcher.specs.Records.{AreOfScreened, ReadsAllScreened, ReadsLive, ReadsOnly, ReadsScreened};
+ghost use Rattle.searcher.specs.Records.{AreOfScreened, ReadsAllScreened, ReadsInTurn, ReadsLive, ReadsOne, ReadsOnly, ReadsScreened};
 ghost use Rattle.searcher.specs.Searched.{IsSearched, LoadsOnce};
 ghost use Rattle.searcher.specs.Finding.{HasRead, LoadsPruned};
 ghost use Rattle.searcher.specs.Walking.{Reads, Replies, AreFound, AllScreened, Takes, Spends, Whatever};
@@ -94,6 +94,7 @@ fn take_one(
     ensures reads { Reads caller.old.account caller.new.account }
     ensures once { LoadsOnce caller.old.account caller.new.account 1 }
     ensures read { ReadsOnly board.now.shape front number caller.old.account caller.new.account }
+    ensures one { ReadsOne board.now.shape number caller.old.account caller.new.account }
     ensures whole { ReadsLive board.now.shape front number caller.old.account caller.new.account }
     ensures size { length words.new ≡ 7200 }
     ensures asked { search.new.matcher ≡ search.old.matcher }
@@ -138,6 +139,7 @@ fn fill(
     ensures reads { Reads caller.old.account caller.new.account }
     ensures once { LoadsOnce caller.old.account caller.new.account (length numbers.now) }
     ensures read { ReadsScreened board.now.shape query.now front caller.old.account caller.new.account }
+    ensures turn { ReadsInTurn board.now.shape caller.old.account caller.new.account }
     ensures whole { OnOk result (ReadsAllScreened board.now.shape query.now front caller.old.account caller.new.account) }
     ensures found { OnOk result (AreFound board.now.shape caller.new.account query.now budget front hits.new) }
     ensures rows { OnOk result (hits.new.rows ≡ rows) }
@@ -186,6 +188,7 @@ fn answer(
     ensures stock { caller.new.stock ≡ caller.old.stock }
     ensures reads { HasRead caller.old.account caller.new.account }
     ensures read { ReadsScreened board.now.shape query.now front caller.old.account caller.new.account }
+    ensures turn { ReadsInTurn board.now.shape caller.old.account caller.new.account }
     ensures whole { OnOk result (ReadsAllScreened board.now.shape query.now front caller.old.account caller.new.account) }
     ensures found { OnOk result (AreFound board.now.shape caller.new.account query.now budget front hits.new) }
     ensures rows { OnOk result (LoadsPruned query.now caller.old.account caller.new.account hits.new.rows) }
@@ -210,8 +213,9 @@ fn answer(
 /// embedding, how many records were screened, and how many rows were loaded. It answers the front. It is over budget only where the work
 /// of this search exceeds the budget, and always where the screened records have more atoms than that. After an error the list is empty.
 /// It descends in the class tree with the need of the query's pivot: the code words that it loads are pruned (`LoadsPruned`), none is
-/// loaded twice. The names, atoms and bonds that it loads are those of screened records (`ReadsScreened`). It doesn't wait. The answer is
-/// true of every board that has what the caller has loaded by then.
+/// loaded twice. The names, atoms and bonds that it loads are those of screened records (`ReadsScreened`), record after
+/// record by rising number and each word once (`ReadsInTurn`). It doesn't wait. The answer is true of every board that
+/// has what the caller has loaded by then.
 pub fn search(
     alloc: Global,
     board: &Board,
@@ -235,6 +239,7 @@ pub fn search(
         × IsSearched caller.old.account caller.new.account at (Answered query.now budget at OverBudget ∷ [])
         × Whatever board.now.shape caller.new.account at (λ h. IsReply query.now budget h over_budget)
         × ((rows : ℕ) × LoadsPruned query.now caller.old.account caller.new.account rows) }
+    ensures turn { ReadsInTurn board.now.shape caller.old.account caller.new.account }
     ensures read_over { (at : ℕ) → result ≡ Err (SearchError.OverBudget at) → ReadsScreened board.now.shape query.now at caller.old.account caller.new.account }
     ensures memory { result ≡ Err SearchError.OutOfMemory → (f : ℕ) × IsSearched caller.old.account caller.new.account f [] }
     ensures empty { IfErr result (λ e. hits.new ≡ no_hits) }

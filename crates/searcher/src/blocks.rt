@@ -1,11 +1,11 @@
 // The words of a block's name, atoms and bonds are loaded: all but its marks and its codes.
-ghost use Rattle.std.specs.Prelude.{◌≡◌, ℕ, ◌<◌, ◌≤◌, ◌+◌, ◌-◌, ◌⊎◌, [], ◌∷◌, length, slice_index};
+ghost use Rattle.std.specs.Prelude.{◌≡◌, ℕ, ◌<◌, ◌≤◌, ◌+◌, ◌-◌, ◌⊎◌, [], ◌∷◌, ◌++◌, length, slice_index};
 ghost use Rattle.board_core.specs.Words.{total_of};
 ghost use Rattle.board_core.specs.Blocks.{block_size};
 ghost use Rattle.board_core.specs.Loaded.{KnowsBlock, KnowsHead, IsInTable, HasBlock};
 ghost use Rattle.board_core.specs.Steps.{MayBeSome};
 ghost use Rattle.board.specs.Seated.{IsOf};
-ghost use Rattle.searcher.specs.Records.{IsOfBlock, IsTextPlace, ReadsAt, ReadsWord};
+ghost use Rattle.searcher.specs.Records.{IsOfBlock, IsTextPlace, ReadsAt, ReadsWord, places_from, places_read, text_places};
 ghost use Rattle.searcher.specs.Searched.{Loads, words_past};
 ghost use Rattle.searcher.specs.Walking.{Reads, HasFacts};
 
@@ -38,6 +38,7 @@ fn load_words(
     ensures others { (i : ℕ) → (i < from) ⊎ (until ≤ i) → slice_index words.new i ≡ slice_index words.old i }
     ensures once { Loads caller.old.account caller.new.account 0 0 (until - from) [] }
     ensures of_block { ReadsAt caller.old.account caller.new.account (IsOfBlock block head) }
+    ensures places { places_read caller.new.account ≡ places_read caller.old.account ++ places_from (block + from) (until - from) }
     ensures read { (i : ℕ) → from ≤ i → i < until → ReadsWord caller.old.account caller.new.account (block + i) }
 {
     for index in from..until {
@@ -60,7 +61,8 @@ pub(crate) fn load_block(board: &Board, caller: &mut Caller, block: u64, words: 
     ensures words { HasBlock board.now.shape caller.new.account block (slice_index words.new) }
     ensures once { (head : ℕ) × Loads caller.old.account caller.new.account 0 0 (words_past head) (record { place = block; word = head } ∷ []) }
     ensures of_block { (head : ℕ) × KnowsHead board.now.shape caller.new.account block head × ReadsAt caller.old.account caller.new.account (IsOfBlock block head)
-        × ((i : ℕ) → IsTextPlace head i → ReadsWord caller.old.account caller.new.account (block + i)) }
+        × ((i : ℕ) → IsTextPlace head i → ReadsWord caller.old.account caller.new.account (block + i))
+        × (places_read caller.new.account ≡ places_read caller.old.account ++ text_places block head) }
 {
     let head = load_head(board, caller, block);
     words[0] = head;

@@ -1,7 +1,7 @@
 // The record of a number is read, where it is live at the front.
 ghost use Rattle.std.specs.Prelude.{◌≡◌, ℕ, ◌<◌, ◌≤◌, [], length, IfSome, IfOk, None, Ok};
 ghost use Rattle.board.specs.Seated.{IsOf};
-ghost use Rattle.searcher.specs.Records.{ReadsLive, ReadsOnly};
+ghost use Rattle.searcher.specs.Records.{ReadsLive, ReadsOne, ReadsOnly};
 ghost use Rattle.searcher.specs.Searched.{Loads, LoadsOnce};
 ghost use Rattle.searcher.specs.Walking.{Reads, IsOpenBlock, IsReadLive, NotLive, Whatever};
 
@@ -64,6 +64,7 @@ pub(crate) fn load_live(
     ensures none { result ≡ Ok None → Whatever board.now.shape caller.new.account front (NotLive number) }
     ensures once { LoadsOnce caller.old.account caller.new.account 1 }
     ensures read { ReadsOnly board.now.shape front number caller.old.account caller.new.account }
+    ensures one { ReadsOne board.now.shape number caller.old.account caller.new.account }
     ensures whole { ReadsLive board.now.shape front number caller.old.account caller.new.account }
 {
     let Some(block) = open_block(board, caller, front, number) else {

@@ -1,4 +1,5 @@
-use Rattle.std.proofs.Common.{◌≡◌, ℕ, List, length, sym, ap, ◌∙◌, subst, arith}
+use Rattle.std.proofs.Common.{◌≡◌, ℕ, List, [], length, map, sym, ap, ◌∙◌, subst, arith}
+use Rattle.board_core.specs.declared.loads.WordLoad.{WordLoad}
 use Rattle.board_core.specs.declared.room.Row.{Row}
 use Rattle.board_core.specs.Each.{Each}
 use Rattle.board_core.specs.Loaded.{IsInTable, KnowsRow}
@@ -9,6 +10,7 @@ use Rattle.searcher.proofs.Screening.{numbers_screened}
 use Rattle.std.proofs.lemmas.Result.{on_ok_weaker}
 use Rattle.board_core.proofs.Grown.{grows_trans}
 use Rattle.searcher.proofs.Records.{numbers_read_nothing, screened_nothing, visits_screened}
+use Rattle.searcher.proofs.Turns.{read_none, turns_after, turns_none}
 use Rattle.searcher.proofs.Whole.{all_after}
 use Rattle.searcher.proofs.Walks.{seen_still}
 use Rattle.searcher.proofs.Complete.{all_screened, notes_stay}
@@ -81,3 +83,19 @@ returns-clause-whole c =
     on_ok_weaker c.fill.result
     (all_after c.args.board.now.shape c.args.query.now c.args.front a d e (grows_trans a b d c.find_rows.ensures.visits.grown c.numbers_in_order.ensures.reads.grown))
     c.fill.ensures.whole
+
+pub returns-in_default-clause-turn : goal.returns-in_default-clause-turn
+returns-in_default-clause-turn c = turns_none c.args.board.now.shape c.args.caller.now.account c.find_rows.new.caller.account (ap (map (λ (l : WordLoad). l.place)) c.find_rows.ensures.visits.facts)
+
+pub returns-in_default-numbers_in_order-clause-turn : goal.returns-in_default-numbers_in_order-clause-turn
+returns-in_default-numbers_in_order-clause-turn c =
+    let once = c.numbers_in_order.ensures.once in
+    turns_none c.args.board.now.shape c.args.caller.now.account c.numbers_in_order.new.caller.account
+    (read_none c.find_rows.new.caller.account c.numbers_in_order.new.caller.account 0 once.0 [] c.numbers_in_order.ensures.reads.grown once.2 ∙ ap (map (λ (l : WordLoad). l.place)) c.find_rows.ensures.visits.facts)
+
+pub returns-clause-turn : goal.returns-clause-turn
+returns-clause-turn c =
+    let once = c.numbers_in_order.ensures.once in
+    turns_after c.args.board.now.shape c.args.caller.now.account c.numbers_in_order.new.caller.account c.fill.new.caller.account
+    (read_none c.find_rows.new.caller.account c.numbers_in_order.new.caller.account 0 once.0 [] c.numbers_in_order.ensures.reads.grown once.2 ∙ ap (map (λ (l : WordLoad). l.place)) c.find_rows.ensures.visits.facts)
+    c.fill.ensures.turn

@@ -4,6 +4,7 @@ use Rattle.htss_defs.specs.HitLists.{HitsKept}
 use Rattle.searcher.specs.Walking.{AllScreened}
 use Rattle.searcher.specs.Records.{AreOfScreened}
 use Rattle.searcher.proofs.Records.{screened_more, screened_none}
+use Rattle.searcher.proofs.Turns.{turns_begin, turns_more}
 use Rattle.searcher.proofs.Whole.{up_to_all, up_to_more, up_to_none}
 use Rattle.searcher.proofs.Read.{reads_same, reads_trans}
 use Rattle.searcher.proofs.Once.{once_none, once_both, once_fewer}
@@ -18,6 +19,7 @@ loop-index-init c = record {
   reads = reads_same c.args.caller.now.account;
   once = once_none c.args.caller.now.account;
   read = screened_none c.args.board.now.shape c.args.query.now c.args.front c.args.caller.now.account;
+  turns = turns_begin c.args.board.now.shape c.args.caller.now.account;
   whole = up_to_none c.args.board.now.shape c.args.front c.args.numbers.now c.args.caller.now.account;
   size = refl;
   early = omega arith;
@@ -91,6 +93,7 @@ loop-index-preserved c =
             once = once_both first a b index 1 i.once w.take_one.ensures.once;
             read = screened_more k c.args.query.now front index c.args.numbers.now first a b w.take_one.ensures.reads.grown c.loop-index-test.true
                 (whatever_later k first b front (AreOfScreened c.args.query.now c.args.numbers.now) reads.grown c.requires.screened) i.read w.take_one.ensures.read;
+            turns = turns_more k c.loop-index.last number first a b w.take_one.ensures.reads.grown w.if-number-last.true i.turns w.take_one.ensures.one;
             whole = up_to_more k front index c.loop-index.last number c.args.numbers.now first a b i.reads.grown w.take_one.ensures.reads.grown next i.whole w.take_one.ensures.whole;
             size = w.take_one.ensures.size;
             early = early;
@@ -105,6 +108,7 @@ loop-index-preserved c =
         reads = i.reads;
         once = once_fewer first a index (index + 1) (omega arith) i.once;
         read = i.read;
+        turns = i.turns;
         whole = i.whole;
         size = i.size;
         early = i.early;
@@ -136,3 +140,10 @@ returns-clause-whole c =
     let done = c.loop-index-test.false in
     up_to_all k c.args.query.now c.args.front c.loop-index.last c.args.numbers.now first a (whatever_later k first a c.args.front (AllScreened c.args.query.now c.args.numbers.now) i.reads.grown c.requires.all)
     (λ j inside. i.passed j (omega arith)) i.whole
+
+pub returns-in_err-take_one-clause-turn : goal.returns-in_err-take_one-clause-turn
+returns-in_err-take_one-clause-turn c = (turns_more c.args.board.now.shape c.loop-index.last (slice_index c.args.numbers.now c.loop-index.index) c.args.caller.now.account c.loop-index.caller.account c.take_one.new.caller.account
+    c.take_one.ensures.reads.grown c.if-number-last.true c.loop-index.invariant.turns c.take_one.ensures.one).turn
+
+pub returns-clause-turn : goal.returns-clause-turn
+returns-clause-turn c = c.loop-index.invariant.turns.turn

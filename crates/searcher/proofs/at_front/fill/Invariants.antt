@@ -4,6 +4,7 @@ use Rattle.searcher.specs.Records.{ReadsScreened}
 use Rattle.searcher.specs.Searched.{LoadsOnce}
 use Rattle.searcher.specs.Walking.{Reads}
 use Rattle.searcher.proofs.Walks.{Walked}
+use Rattle.searcher.proofs.Turns.{TurnsTo}
 use Rattle.searcher.proofs.Whole.{ReadsUpTo}
 use Rattle.searcher.proofs.at_front.fill.Given as goal
 
@@ -14,6 +15,7 @@ invariant-loop-index l = record {
   reads : Reads l.fn.caller.account l.caller.account;
   once : LoadsOnce l.fn.caller.account l.caller.account l.index;
   read : ReadsScreened l.board.shape l.query l.front l.fn.caller.account l.caller.account;
+  turns : TurnsTo l.board.shape l.last l.fn.caller.account l.caller.account;
   whole : ReadsUpTo l.board.shape l.front l.numbers l.last l.fn.caller.account l.caller.account;
   size : length l.words ≡ 7200;
   early : l.last ≤ l.front;

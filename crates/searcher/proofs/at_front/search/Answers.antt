@@ -6,6 +6,7 @@ use Rattle.board_core.specs.declared.entry.Reply.TheVariants.{Hits, OverBudget}
 use Rattle.searcher.specs.Searched.{IsSearched}
 use Rattle.searcher.specs.Records.{ReadsScreened}
 use Rattle.searcher.proofs.Records.{read_fronted, read_noted}
+use Rattle.searcher.proofs.Turns.{turns_fronted, turns_noted}
 use Rattle.searcher.proofs.Whole.{all_fronted, all_noted}
 use Rattle.reg_model.specs.Searches.{Counts}
 use Rattle.htss_defs.specs.Reply.{IsReply, found, over_budget}
@@ -77,3 +78,21 @@ returns-in-Ok-clause-whole c =
     let front = c.load_front-front.result in
     all_noted k query front c.args.caller.now.account c.answer.new.caller c.note_hits.new.caller (Answered query c.args.budget front (Hits c.answer.new.hits.hits) ∷ []) c.note_hits.ensures
     (all_fronted c.args.caller.now c.load_front-front.new.caller front k query front c.answer.new.caller.account c.load_front-front.ensures.after c.in-Ok.ensures.whole)
+
+pub returns-in-Ok-clause-turn : goal.returns-in-Ok-clause-turn
+returns-in-Ok-clause-turn c =
+    let k = c.args.board.now.shape in
+    let front = c.load_front-front.result in
+    turns_noted k c.args.caller.now.account c.answer.new.caller c.note_hits.new.caller (Answered c.args.query.now c.args.budget front (Hits c.answer.new.hits.hits) ∷ []) c.note_hits.ensures
+    (turns_fronted c.args.caller.now c.load_front-front.new.caller front k c.answer.new.caller.account c.load_front-front.ensures.after c.answer.ensures.turn)
+
+pub returns-in-Err-OverBudget-clause-turn : goal.returns-in-Err-OverBudget-clause-turn
+returns-in-Err-OverBudget-clause-turn c =
+    let k = c.args.board.now.shape in
+    let front = c.load_front-front.result in
+    turns_noted k c.args.caller.now.account c.answer.new.caller c.note_over.new.caller (Answered c.args.query.now c.args.budget c.in-Err-OverBudget.at OverBudget ∷ []) c.note_over.ensures
+    (turns_fronted c.args.caller.now c.load_front-front.new.caller front k c.answer.new.caller.account c.load_front-front.ensures.after c.answer.ensures.turn)
+
+pub returns-in-Err-OutOfMemory-clause-turn : goal.returns-in-Err-OutOfMemory-clause-turn
+returns-in-Err-OutOfMemory-clause-turn c =
+    turns_fronted c.args.caller.now c.load_front-front.new.caller c.load_front-front.result c.args.board.now.shape c.answer.new.caller.account c.load_front-front.ensures.after c.answer.ensures.turn

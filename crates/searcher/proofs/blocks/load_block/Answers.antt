@@ -6,6 +6,7 @@ use Rattle.searcher.proofs.Once.{loads_head}
 use Rattle.searcher.proofs.Block.{head_known, block_whole}
 use Rattle.searcher.specs.Records.{IsOfBlock}
 use Rattle.searcher.proofs.Records.{at_both, loads_nothing}
+use Rattle.searcher.proofs.Turns.{block_read_once}
 use Rattle.searcher.proofs.Whole.{block_words}
 use Rattle.searcher.proofs.blocks.load_block.Goals as goal
 
@@ -52,4 +53,5 @@ returns-clause-of_block c =
           (at_both start.account first last (IsOfBlock block head) c.load_words-2.ensures.reads.grown c.load_words.ensures.of_block c.load_words-2.ensures.of_block),
       block_words old.account start.account first last block head c.codes_at.result c.bonds_at.result c.size_of.result c.codes_at.ensures.value c.bonds_at.ensures.value c.size_of.ensures.value
           (reads_head old start _ _ c.load_head-head.ensures.after).grown c.load_words.ensures.reads.grown c.load_words-2.ensures.reads.grown c.load_words.ensures.read c.load_words-2.ensures.read,
+      block_read_once old start first last block head c.codes_at.result c.bonds_at.result c.size_of.result c.codes_at.ensures.value c.bonds_at.ensures.value c.size_of.ensures.value c.load_head-head.ensures.after c.load_words.ensures.places c.load_words-2.ensures.places,
     )

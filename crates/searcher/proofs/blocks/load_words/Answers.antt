@@ -5,6 +5,7 @@ use Rattle.searcher.proofs.Read.{reads_same, reads_fact, reads_trans, of_after}
 use Rattle.searcher.specs.Records.{IsOfBlock}
 use Rattle.searcher.proofs.Once.{loads_fact, loads_next, loads_none}
 use Rattle.searcher.proofs.Records.{at_both, at_same, word_read}
+use Rattle.searcher.proofs.Turns.{place_none, place_read}
 use Rattle.searcher.proofs.Whole.{words_more, words_none}
 use Rattle.searcher.proofs.Block.{facts_more, facts_none, others_more}
 use Rattle.searcher.proofs.blocks.load_words.Goals as goal
@@ -28,6 +29,7 @@ loop-index-preserved c =
       once = loads_next c.args.caller.now.account before.account after.account c.args.from c.loop-index.index (omega arith) i.once (loads_fact before after _ _ c.load_fact.ensures.after);
       of_block = at_both c.args.caller.now.account before.account after.account (IsOfBlock c.args.block c.args.head) reads.grown i.of_block
           (word_read before after c.args.block c.loop-index.index c.load_fact.result c.args.head c.load_fact.ensures.after (let range = c.requires.range.2 in omega (arith, below, range)));
+      places = place_read c.args.caller.now.account before after c.args.block c.args.from c.loop-index.index c.load_fact.result (omega arith) c.load_fact.ensures.after i.places;
       read = words_more c.args.caller.now.account before after c.args.block c.args.from c.loop-index.index c.load_fact.result c.load_fact.ensures.after i.reads.grown reads.grown i.read;
       facts = facts_more k before after c.args.block c.args.from c.loop-index.index c.load_fact.result c.loop-index.words i.size (omega arith) i.facts reads.grown c.load_fact.ensures.after;
       others = others_more c.loop-index.words c.args.words.now c.args.from c.args.until c.loop-index.index c.load_fact.result (omega arith) (omega arith) i.others;
@@ -45,6 +47,7 @@ loop-index-init c =
       size = c.requires.room;
       once = record { shown_are = none.shown_are; marks_are = none.marks_are; words_are = let same = none.words_are in omega (arith, same); heads_are = none.heads_are };
       of_block = at_same a (IsOfBlock c.args.block c.args.head);
+      places = place_none a c.args.block c.args.from;
       read = words_none a a c.args.block c.args.from;
       facts = facts_none a c.args.block c.args.from c.args.words.now;
       others = λ i outside. refl;

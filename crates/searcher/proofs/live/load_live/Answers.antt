@@ -1,9 +1,10 @@
-use Rattle.std.proofs.Common.{◌+◌, [], slice_index}
+use Rattle.std.proofs.Common.{◌+◌, [], inl, slice_index}
 use Rattle.searcher.proofs.Read.{reads_trans}
 use Rattle.searcher.proofs.Once.{once_block, once_passed}
 use Rattle.searcher.proofs.Living.{is_record, read_live}
 use Rattle.searcher.specs.Records.{IsOfBlock, IsOfLive}
 use Rattle.searcher.proofs.Records.{at_both, block_read, loads_nothing}
+use Rattle.searcher.proofs.Turns.{read_live as reads_live, read_none}
 use Rattle.searcher.proofs.Whole.{live_whole, none_whole, word_since}
 use Rattle.searcher.proofs.live.load_live.Goals as goal
 
@@ -82,3 +83,26 @@ returns-clause-whole c =
     let of = c.load_block.ensures.of_block in
     live_whole c.args.board.now.shape old a b c.args.front c.args.number c.in-Some.block of.0 c.in-Some.ensures.block c.load_block.ensures.reads.grown of.1
     (λ i is. word_since old a b (c.in-Some.block + i) c.open_block.ensures.reads.grown (of.3 i is))
+
+pub returns-in_default-clause-one : goal.returns-in_default-clause-one
+returns-in_default-clause-one c = let once = c.open_block.ensures.once in inl (read_none c.args.caller.now.account c.open_block.new.caller.account 1 once.0 [] c.open_block.ensures.reads.grown once.2)
+
+pub returns-in_err-mol-clause-one : goal.returns-in_err-mol-clause-one
+returns-in_err-mol-clause-one c =
+    let old = c.args.caller.now.account in
+    let a = c.open_block.new.caller.account in
+    let b = c.load_block.new.caller.account in
+    let once = c.open_block.ensures.once in
+    let of = c.load_block.ensures.of_block in
+    reads_live c.args.board.now.shape old a b c.args.front c.args.number c.in-Some.block of.0 c.in-Some.ensures.block c.load_block.ensures.reads.grown of.1
+    (read_none old a 1 once.0 [] c.open_block.ensures.reads.grown once.2) of.4
+
+pub returns-clause-one : goal.returns-clause-one
+returns-clause-one c =
+    let old = c.args.caller.now.account in
+    let a = c.open_block.new.caller.account in
+    let b = c.load_block.new.caller.account in
+    let once = c.open_block.ensures.once in
+    let of = c.load_block.ensures.of_block in
+    reads_live c.args.board.now.shape old a b c.args.front c.args.number c.in-Some.block of.0 c.in-Some.ensures.block c.load_block.ensures.reads.grown of.1
+    (read_none old a 1 once.0 [] c.open_block.ensures.reads.grown once.2) of.4
