@@ -77,7 +77,7 @@ struct Story {
     log: String,
 }
 
-fn file(alloc: Global, name: &str, text: &str) -> Result<NamedBytes, Fail> {
+pub(crate) fn file(alloc: Global, name: &str, text: &str) -> Result<NamedBytes, Fail> {
     Ok(NamedBytes {
         name: Text::new(String::from_str(alloc, name)?),
         bytes: Bytes::new(Vec::from_slice(alloc, text.as_bytes())?),
