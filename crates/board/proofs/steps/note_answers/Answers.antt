@@ -12,5 +12,5 @@ load-requires g c = (
   same_table _ _ _ _ _ _ _ _ _ c.board.view_is c.caller.view_is c.requires.fits,
   low_word _ _ _ _ _ _ 1 c.board.invariant.1 (omega arith),
   on_board _ _ _ _ _ (λ n. n) _ _ (same_shape _ _ _ _ _ _ _ _ _ _ c.board.view_is c.caller.view_is c.board.invariant.0 c.requires.fits)
-    (answer_allowed _ _ _ _ _ (of_both (λ (k : Shape) (a : Account). AreTrue k a g.E.Answers.entries) _ _ _ _ _ _ _ _ _ _ c.board.view_is c.caller.view_is c.board.invariant.0 c.requires.answers)),
+      (answer_allowed _ _ _ _ _ (of_both (λ (k : Shape) (a : Account). AreTrue k a g.E.Answers.entries) _ _ _ _ _ _ _ _ _ _ c.board.view_is c.caller.view_is c.board.invariant.0 c.requires.answers)),
 )
