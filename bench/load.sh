@@ -1,7 +1,8 @@
 #!/usr/bin/env bash
-# How fast one loader loads, by the number of made records, and how many pages their rows take. The time is a whole run less one of an
-# empty script on the same board, the largest that a shape allows: reading the file, the tree and writing the report are in it. The pages
-# are the fewest with which every record of the smallest load is published. Best of five runs each, all in one run.
+# How fast one loader loads, by the number of made records, and how many pages their rows take. The time is the
+# processor time of a whole run less that of an empty script on the same board, the largest that a shape allows: reading
+# the file, the tree and writing the report are in it. The pages are the fewest with which every record of the smallest
+# load is published. Least of three runs each, all in one run.
 # Usage: bench/load.sh [RECORDS...]
 set -u
 here=$(cd "$(dirname "$0")" && pwd)
@@ -14,6 +15,16 @@ printf 'load made.sdf\n' >load.txt
 printf '' >nothing.txt
 limits='--loaders 1 --searchers 1 --room 16777216 --log 1048576'
 most='--pages 1048576'
+
+# The least processor time of three runs of a command, in microseconds.
+spent() {
+  local least= took
+  for _ in 1 2 3; do
+    took=$( { TIMEFORMAT='%U %S'; time "$@" >/dev/null 2>&1; } 2>&1 | awk '{ printf "%d", ($1 + $2) * 1000000 }')
+    if [ -z "$least" ] || [ "$took" -lt "$least" ]; then least=$took; fi
+  done
+  echo "$least"
+}
 
 # How many records are published on a board of so many pages.
 published() { "$program" run load.txt $limits --pages "$1" | grep -c '^published'; }
@@ -28,13 +39,13 @@ fewest() {
   echo "$enough"
 }
 
-board=$(best "$program" run nothing.txt $limits $most)
+board=$(spent "$program" run nothing.txt $limits $most)
 echo "an empty script: $board us"
 first=
 for records in "$@"; do
   "$program" make "$records" 7 >made.sdf
   rows=$("$program" make --summary "$records" 7 | awk '{ print $6 }')
-  took=$(($(best "$program" run load.txt $limits $most) - board))
+  took=$(($(spent "$program" run load.txt $limits $most) - board))
   report "loading $records" "$took"
   [ -n "$first" ] || first=$((took * 1000 / records))
   awk -v t="$took" -v n="$records" -v r="$rows" -v first="$first" 'BEGIN {
