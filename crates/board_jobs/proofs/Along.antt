@@ -1,5 +1,5 @@
 -- What each caller's account keeps along the answers of groups, with the lines of that caller.
-use Rattle.std.proofs.Common.{◌≡◌, ⊎_elim, ℕ, ◌+◌, Bool, cond, List, [], ◌∷◌, ◌++◌, map, set, sym, refl, ap, subst, ◌∙◌, append_assoc, append-nil}
+use Rattle.std.proofs.Common.{◌≡◌, ⊎_elim, ℕ, ◌+◌, ◌≤◌, Bool, cond, List, [], ◌∷◌, ◌++◌, map, set, sym, ap, subst, ◌∙◌, append_assoc, append-nil}
 use Rattle.std.specs.List.{flat_map}
 use Rattle.std.proofs.lemmas.Grind.{flat_map-append}
 use Rattle.std.proofs.lemmas.List.Concat.{flat_map-cons}
@@ -42,7 +42,8 @@ module _ (k : Shape) (Keeps : Caller → List Line → Account → Type 0) where
 
 -- it is kept by an answer, and where callers meet
 module _ (k : Shape) (Keeps : Caller → List Line → Account → Type 0)
-    (seen : (c : Caller) (lines : List Line) (front : ℕ) (a : Account) → Keeps c lines a → Keeps c lines (with_seen front a))
+    (seen : (c : Caller) (lines : List Line) (front : ℕ) (a : Account) → a.log.seen ≤ front → Keeps c lines a
+    → Keeps c lines (with_seen front a))
     (step : (c : Caller) (group : ℕ) (answer : Answer) (lines : List Line) (a b : Account) → IsAnswered k c a b answer → IsAsked c answer → Keeps c lines a → Keeps c (lines ++ line_of group c answer ∷ []) b) where
   -- a line by another caller changes the account at another place
   along_answer : (accounts : List Account) (lines : List Line) (group : ℕ) (by : Caller) (answer : Answer) (a b : Account) → IsCaller k by → get_elem? accounts (place_of k by) ≡ some a → IsAnswered k by a b answer → IsAsked by answer
@@ -91,7 +92,9 @@ module _ (k : Shape) (Keeps : Caller → List Line → Account → Type 0)
   pub along_met : (before after : List Account) (front : ℕ) (lines : List Line) → HaveMet before after front → AllKeep k Keeps before lines → AllKeep k Keeps after lines
   along_met before after front lines met all caller is x there =
       let back = map_back (with_seen front) before (place_of k caller) x (subst (λ (l : List Account). get_elem? l (place_of k caller) ≡ some x) met.after_is there) in
-      subst (Keeps caller (lines_by caller lines)) back.2 (seen caller (lines_by caller lines) front back.0 (all caller is back.0 back.1))
+      subst (Keeps caller (lines_by caller lines)) back.2
+      (seen caller (lines_by caller lines) front back.0 (met.most (place_of k caller) back.0 back.1)
+      (all caller is back.0 back.1))
 
   -- ---- the groups
 

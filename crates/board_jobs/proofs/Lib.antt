@@ -24,4 +24,5 @@ pub mod Ordering
 pub mod Pruned
 pub mod Asked
 pub mod Along
+pub mod Screened
 pub mod Rested

@@ -37,6 +37,7 @@ refused-answers k a line code c who = record {
   used = omega arith;
   says = tt;
   rows = tt;
+  read = tt;
   begun = omega arith;
   grows = grows_same a;
 }

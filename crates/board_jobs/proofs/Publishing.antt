@@ -121,6 +121,7 @@ full-answers k a d s front is later full room c who =
       used = is.used;
       says = (full, has_room k a s room);
       rows = tt;
+      read = tt;
       begun = is.begun;
       grows = grows_trans a (locked d front) b (grows_locked a d s front is later) (grows_quiet (locked d front) b (omega arith) refl (entries_added (locked d front) b (noted (locked d front).loads (LogFull front ∷ [])) refl));
     }
@@ -143,6 +144,7 @@ published-answers k a d s front is later room c who =
       used = is.used;
       says = has_room k a s room;
       rows = tt;
+      read = tt;
       begun = is.begun;
       grows = grows_trans a (locked d front) b (grows_locked a d s front is later) (grows_quiet (locked d front) b (omega arith) refl (λ j x there. at_longer (d.entries ++ noted b.loads (told ∷ [])) [] j x (at_longer d.entries (noted b.loads (told ∷ [])) j x there)));
     }
@@ -236,6 +238,7 @@ room-answers k a s left need full c who =
       used = omega arith;
       says = (full.need_is ∙ block_size (named s), less, omega (arith, left_is, room));
       rows = tt;
+      read = tt;
       begun = omega arith;
       grows = grows_quiet a b (omega arith) refl (entries_added a b (noted a.loads (DataFull left need ∷ [])) refl);
     }
@@ -251,6 +254,7 @@ page-answers k a d s room is c who = let seen : d.log.seen ≡ a.log.seen = ap (
   used = is.used;
   says = has_room k a s room;
   rows = tt;
+  read = tt;
   begun = is.begun;
   grows = is.grows;
 }
@@ -266,6 +270,7 @@ chain-answers k a d s pages all room is c who = let seen : d.log.seen ≡ a.log.
   used = is.used;
   says = (all, has_room k a s room);
   rows = tt;
+  read = tt;
   begun = is.begun;
   grows = is.grows;
 }

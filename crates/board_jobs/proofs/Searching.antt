@@ -21,6 +21,7 @@ use Rattle.board_core.proofs.Grown.{grows_same}
 use Rattle.board.specs.Seated.{Place, Seated, IsOf}
 use Rattle.searcher.specs.Searched.{IsSearched as Searched}
 use Rattle.searcher.specs.Finding.{LoadsPruned}
+use Rattle.searcher.specs.Records.{ReadsAllScreened, ReadsScreened}
 use Rattle.board_jobs.specs.Jobs.{IsReady}
 use Rattle.board_core.specs.declared.pool.Own.{Own}
 use Rattle.board_core.specs.Sheets.{owns}
@@ -41,8 +42,9 @@ begun_in a b front es s = let same : length b.tree.begun ≡ length a.tree.begun
 
 hits-answers : (k : Shape) (a b : Account) (asked : QueryGraph) (budget front : ℕ) (hits : List Hit) (rows records : ℕ) → a.log.seen ≤ front
     → Searched a b front (Answered asked budget front (reply.Hits hits) ∷ []) → Whatever k b front (λ h. Counts asked h records)
-    → LoadsPruned asked a b rows → Answers k a b (to_search (hits_at asked budget front hits rows records))
-hits-answers k a b asked budget front hits rows records later s counted rowed c who =
+    → LoadsPruned asked a b rows → ReadsScreened k asked front a b → ReadsAllScreened k asked front a b
+    → Answers k a b (to_search (hits_at asked budget front hits rows records))
+hits-answers k a b asked budget front hits rows records later s counted rowed screened whole c who =
     let told : Entry = Answered asked budget front (reply.Hits hits) in
     let seen = seen_in a b front (told ∷ []) s in record {
       who = s.who;
@@ -54,13 +56,15 @@ hits-answers k a b asked budget front hits rows records later s counted rowed c 
       used = used_in a b front (told ∷ []) s;
       says = counted;
       rows = rowed;
+      read = (screened, whole);
       begun = begun_in a b front (told ∷ []) s;
       grows = s.grown;
     }
 
 over-answers : (k : Shape) (a b : Account) (asked : QueryGraph) (budget front : ℕ) → a.log.seen ≤ front
-    → Searched a b front (Answered asked budget front reply.OverBudget ∷ []) → (rows : ℕ) × LoadsPruned asked a b rows → Answers k a b (to_search (over_at asked budget front))
-over-answers k a b asked budget front later s rowed c who =
+    → Searched a b front (Answered asked budget front reply.OverBudget ∷ []) → (rows : ℕ) × LoadsPruned asked a b rows
+    → ReadsScreened k asked front a b → Answers k a b (to_search (over_at asked budget front))
+over-answers k a b asked budget front later s rowed screened c who =
     let told : Entry = Answered asked budget front reply.OverBudget in
     let seen = seen_in a b front (told ∷ []) s in record {
       who = s.who;
@@ -72,6 +76,7 @@ over-answers k a b asked budget front later s rowed c who =
       used = used_in a b front (told ∷ []) s;
       says = tt;
       rows = rowed;
+      read = screened;
       begun = begun_in a b front (told ∷ []) s;
       grows = s.grown;
     }
@@ -89,6 +94,7 @@ quiet-answers k a b front later s c who =
       used = used_in a b front [] s;
       says = tt;
       rows = λ code. absurd (omega arith);
+      read = tt;
       begun = begun_in a b front [] s;
       grows = s.grown;
     }
@@ -105,6 +111,7 @@ same-answers k a line code c who = record {
   used = omega arith;
   says = tt;
   rows = λ code. refl;
+  read = tt;
   begun = omega arith;
   grows = grows_same a;
 }
@@ -126,16 +133,24 @@ ready_searched c d front es ready stock s = record {
 
 pub told-hits : (b : Place) (c d : Seated) (asked : QueryGraph) (budget front : ℕ) (found hits : List Hit) (rows records kept read : ℕ) → hits ≡ found → kept ≡ records → read ≡ rows → c.account.log.seen ≤ front
     → Searched c.account d.account front (Answered asked budget front (reply.Hits found) ∷ []) → Whatever b.shape d.account front (λ h. Counts asked h records)
-    → LoadsPruned asked c.account d.account rows → TellsReply b.shape c.account d.account asked budget (Hits front hits read kept)
-told-hits b c d asked budget front found hits rows records kept read same count all later s counted rowed =
+    → LoadsPruned asked c.account d.account rows → ReadsScreened b.shape asked front c.account d.account
+    → ReadsAllScreened b.shape asked front c.account d.account
+    → TellsReply b.shape c.account d.account asked budget (Hits front hits read kept)
+told-hits b c d asked budget front found hits rows records kept read same count all later s counted rowed screened
+    whole =
     subst (λ (x : List Hit). Answers b.shape c.account d.account (to_search (hits_at asked budget front x read kept))) (sym same)
     (subst (λ (n : ℕ). Answers b.shape c.account d.account (to_search (hits_at asked budget front found read n))) (sym count)
     (subst (λ (n : ℕ). Answers b.shape c.account d.account (to_search (hits_at asked budget front found n records))) (sym all)
-    (hits-answers b.shape c.account d.account asked budget front found rows records later s counted rowed)))
+    (hits-answers b.shape c.account d.account asked budget front found rows records later s counted rowed
+    screened whole)))
 
 pub told-over : (b : Place) (c d : Seated) (asked : QueryGraph) (budget front : ℕ) → c.account.log.seen ≤ front
-    → Searched c.account d.account front (Answered asked budget front reply.OverBudget ∷ []) → (rows : ℕ) × LoadsPruned asked c.account d.account rows → TellsReply b.shape c.account d.account asked budget (OverBudget front budget)
-told-over b c d asked budget front later s rowed = (refl, over-answers b.shape c.account d.account asked budget front later s rowed)
+    → Searched c.account d.account front (Answered asked budget front reply.OverBudget ∷ [])
+    → (rows : ℕ) × LoadsPruned asked c.account d.account rows
+    → ReadsScreened b.shape asked front c.account d.account
+    → TellsReply b.shape c.account d.account asked budget (OverBudget front budget)
+told-over b c d asked budget front later s rowed screened =
+    (refl, over-answers b.shape c.account d.account asked budget front later s rowed screened)
 
 pub on-searched : (b : Place) (c d : Seated) (front : ℕ) (es : List Entry) (answer : Answer) → IsAtWork b c → IsOf b d → d.stock ≡ c.stock → Searched c.account d.account front es
     → Answers b.shape c.account d.account answer → GoesOn b c d
@@ -143,15 +158,23 @@ on-searched b c d front es answer work of stock s answers =
     goes_on-one b c d answer (record { of = of; ready = ready_searched c d front es work.ready stock s }) s.who answers
 
 pub on-hits : (b : Place) (c d : Seated) (asked : QueryGraph) (budget front : ℕ) (found : List Hit) (rows records : ℕ) → IsAtWork b c → IsOf b d → d.stock ≡ c.stock → c.account.log.seen ≤ front
-    → Searched c.account d.account front (Answered asked budget front (reply.Hits found) ∷ []) → Whatever b.shape d.account front (λ h. Counts asked h records) → LoadsPruned asked c.account d.account rows → GoesOn b c d
-on-hits b c d asked budget front found rows records work of stock later s counted rowed =
+    → Searched c.account d.account front (Answered asked budget front (reply.Hits found) ∷ [])
+    → Whatever b.shape d.account front (λ h. Counts asked h records) → LoadsPruned asked c.account d.account rows
+    → ReadsScreened b.shape asked front c.account d.account → ReadsAllScreened b.shape asked front c.account d.account
+    → GoesOn b c d
+on-hits b c d asked budget front found rows records work of stock later s counted rowed screened whole =
     on-searched b c d front (Answered asked budget front (reply.Hits found) ∷ []) (to_search (hits_at asked budget front found rows records)) work of stock s
-    (hits-answers b.shape c.account d.account asked budget front found rows records later s counted rowed)
+    (hits-answers b.shape c.account d.account asked budget front found rows records later s counted rowed
+    screened whole)
 
 pub on-over : (b : Place) (c d : Seated) (asked : QueryGraph) (budget front : ℕ) → IsAtWork b c → IsOf b d → d.stock ≡ c.stock → c.account.log.seen ≤ front
-    → Searched c.account d.account front (Answered asked budget front reply.OverBudget ∷ []) → (rows : ℕ) × LoadsPruned asked c.account d.account rows → GoesOn b c d
-on-over b c d asked budget front work of stock later s rowed =
-    on-searched b c d front (Answered asked budget front reply.OverBudget ∷ []) (to_search (over_at asked budget front)) work of stock s (over-answers b.shape c.account d.account asked budget front later s rowed)
+    → Searched c.account d.account front (Answered asked budget front reply.OverBudget ∷ [])
+    → (rows : ℕ) × LoadsPruned asked c.account d.account rows
+    → ReadsScreened b.shape asked front c.account d.account → GoesOn b c d
+on-over b c d asked budget front work of stock later s rowed screened =
+    on-searched b c d front (Answered asked budget front reply.OverBudget ∷ [])
+    (to_search (over_at asked budget front)) work of stock s
+    (over-answers b.shape c.account d.account asked budget front later s rowed screened)
 
 -- memory ran out
 pub on-none : (b : Place) (c d : Seated) (front : ℕ) → IsAtWork b c → IsOf b d → d.stock ≡ c.stock → Searched c.account d.account front [] → GoesOn b c d
@@ -181,11 +204,14 @@ searched-told k a b bytes asked budget (Refused at code) is told = absurd told
 -- the search was answered
 pub broke-hits : (b : Place) (c d : Seated) (asked : QueryGraph) (budget front : ℕ) (found : List Hit) (rows records : ℕ) → c.account.log.seen ≤ front
     → Searched c.account d.account front (Answered asked budget front (reply.Hits found) ∷ []) → Whatever b.shape d.account front (λ h. Counts asked h records)
-    → LoadsPruned asked c.account d.account rows → QueryBroke b.shape c.account d.account asked budget
-broke-hits b c d asked budget front found rows records later s counted rowed = record {
+    → LoadsPruned asked c.account d.account rows → ReadsScreened b.shape asked front c.account d.account
+    → ReadsAllScreened b.shape asked front c.account d.account
+    → QueryBroke b.shape c.account d.account asked budget
+broke-hits b c d asked budget front found rows records later s counted rowed screened whole = record {
   answer = hits_at asked budget front found rows records;
   said = inr (refl, refl);
-  answers = hits-answers b.shape c.account d.account asked budget front found rows records later s counted rowed;
+  answers = hits-answers b.shape c.account d.account asked budget front found rows records later s counted rowed
+      screened whole;
 }
 
 -- it was not

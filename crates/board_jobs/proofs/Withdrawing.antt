@@ -54,6 +54,7 @@ at-answers k a b number front event later next called c who =
       used = used_called a b front event (told ∷ []) called;
       says = tt;
       rows = tt;
+      read = tt;
       begun = begun_called a b front event (told ∷ []) called;
       grows = grows_called a b front event (told ∷ []) later called;
     }
@@ -72,6 +73,7 @@ unknown-answers k a b number front at later same called c who =
       used = used_called a b front front (told ∷ []) called;
       says = tt;
       rows = tt;
+      read = tt;
       begun = begun_called a b front front (told ∷ []) called;
       grows = grows_called a b front front (told ∷ []) later called;
     }
@@ -90,6 +92,7 @@ gone-answers k a b number front at later within called c who =
       used = used_called a b front front (told ∷ []) called;
       says = tt;
       rows = tt;
+      read = tt;
       begun = begun_called a b front front (told ∷ []) called;
       grows = grows_called a b front front (told ∷ []) later called;
     }
@@ -108,6 +111,7 @@ full-answers k a b number front at later (same, full, opened) called c who =
       used = used_called a b front front (told ∷ []) called;
       says = (same ∙ full, λ p may. subst (λ n. IsOpen (take n (history_of k p)) number) (sym same) (opened p may));
       rows = tt;
+      read = tt;
       begun = begun_called a b front front (told ∷ []) called;
       grows = grows_called a b front front (told ∷ []) later called;
     }

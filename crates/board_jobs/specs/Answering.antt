@@ -22,6 +22,7 @@ use Rattle.board_core.specs.After.{noted}
 use Rattle.board_core.specs.Answers.{answers_in}
 use Rattle.board_core.specs.CountRule.{insertions_of}
 use Rattle.searcher.specs.Finding.{LoadsPruned}
+use Rattle.searcher.specs.Records.{ReadsAllScreened, ReadsScreened}
 use Rattle.board_jobs.specs.Telling.{tells}
 use Rattle.board_jobs.specs.Begun.{atoms_taken}
 
@@ -75,6 +76,16 @@ LoadsRows a b (to_search (not_read line code)) = 0 < code → b.loads ≡ a.load
 LoadsRows a b (to_search (hits_at asked budget front hits rows records)) = LoadsPruned asked a b rows
 LoadsRows a b (to_search (over_at asked budget front)) = (rows : ℕ) × LoadsPruned asked a b rows
 
+-- the names, atoms and bonds that a search has loaded from a to b are those of records screened at its front; and where
+-- it has hits, each of these was loaded whole
+abbrev pub ReadsRecords : Shape → Account → Account → Answer → Type 0
+ReadsRecords k a b (to_record answer) = Unit {0}
+ReadsRecords k a b (to_withdrawal number answer) = Unit {0}
+ReadsRecords k a b (to_search (not_read line code)) = Unit {0}
+ReadsRecords k a b (to_search (hits_at asked budget front hits rows records)) =
+    ReadsScreened k asked front a b × ReadsAllScreened k asked front a b
+ReadsRecords k a b (to_search (over_at asked budget front)) = ReadsScreened k asked front a b
+
 -- one answer: it adds the entries that it prints; its marks are seen afterwards; its own event comes after all that was seen before,
 -- and its front is no shorter. Each of its entries has the lengths that the lists of loads had at its end. At most one insertion is
 -- begun for each atom of a record
@@ -88,6 +99,7 @@ pub record IsAnswered (k : Shape) (caller : Caller) (a b : Account) (answer : An
   pub used : length b.room.used ≡ length a.room.used + words_used answer
   pub says : Says k (length a.room.used) b answer
   pub rows : LoadsRows a b answer
+  pub read : ReadsRecords k a b answer
   pub begun : insertions_of b ≤ insertions_of a + atoms_taken answer
   pub grows : Grows a b
 

@@ -9,3 +9,4 @@ pub mod Printed
 pub mod Rooms
 pub mod Calls
 pub mod Pruning
+pub mod Reading

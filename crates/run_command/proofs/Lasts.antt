@@ -1,6 +1,8 @@
 -- A run ends with a board, or with a status that is not 0.
 use Rattle.std.proofs.Common.{◌≡◌, ℕ, List, inl, inr, sym, subst, ◌∙◌, arith}
-use Rattle.std.specs.Prelude.{◌≢◌, Option, None, Some}
+use Rattle.std.specs.Prelude.{◌≢◌, Option, None, Some, IfSome}
+use mathlib.Core.Logic.{dite}
+use native.Mathlib.Decide.{ℕ_discrete}
 use Rattle.htss_defs.specs.declared.shape.Shape.{Shape}
 use Rattle.board.specs.Closed.{Closing}
 use Rattle.outside.specs.Files.{File}
@@ -38,3 +40,10 @@ module _ (told : Option (List File)) (script : List ℕ) (shape : Shape) (budget
     | inl w ↦ subst (IsLastOf told script shape budget out out_now status) (sym (ended w.0)) (w.0, text, is, w.1)
     | inr w ↦ let no_end : status ≢ 0 = λ e. (let five = w.0 in absurd (omega (arith, five, e))) in without status last no_end (failed no_end)
   ]
+
+-- what the board that was closed is known to be, the board that is answered is
+pub if_last : (Is : Closing → Type 0) (status : ℕ) (closed : Closing) (last : Option Closing) → Is closed
+    → (status ≡ 0 → last ≡ Some closed) → (status ≢ 0 → last ≡ None) → IfSome last Is
+if_last Is status closed last is ended failed = dite (ℕ_discrete status 0)
+    (λ (e : status ≡ 0). subst (λ (o : Option Closing). IfSome o Is) (sym (ended e)) is)
+    (λ (e : status ≢ 0). subst (λ (o : Option Closing). IfSome o Is) (sym (failed e)) tt)

@@ -45,7 +45,7 @@ use Rattle.board_jobs.proofs.Places.{map_back}
 use Rattle.board_jobs.proofs.Printing.{entries_printed}
 use Rattle.board_jobs.proofs.LogLines.{log_lines}
 use Rattle.board_jobs.proofs.Reported.{known_end, reported}
-use Rattle.board_jobs.proofs.Rested.{run_pruned}
+use Rattle.board_jobs.proofs.Rested.{run_pruned, run_read}
 use Rattle.board_jobs.proofs.Ruled.{roomed, ruled}
 use Rattle.board_jobs.proofs.Begun.{all_loaders}
 use Rattle.board_jobs.proofs.Enough.{chains_enough, pages_enough}
@@ -61,6 +61,7 @@ use Rattle.command_ends.specs.Outcomes.{Why}
 use Rattle.command_ends.specs.Ends.{MayStop, ShelfGoesOn, ShelfSeen}
 use Rattle.command_ends.specs.RunText.{AreFilesOf, HasItsFile, IsFileOf, IsRunFront, IsRunFrontAtAnyTime, IsTextBefore, ScriptWasRead, file_named, jobs_of}
 use Rattle.run_command.specs.Headline.{IsRunOf}
+use Rattle.run_command.specs.Searchers.{HaveSearched}
 use Rattle.run_command.specs.Runs.{AreOnlyFor, AreWithin, HasDone, HasEnd, HaveFiles, IsGroupDone, RunMayStop, StopsAmong, StopsAtEnd, begun_text, lines_of_jobs, with_header}
 use Rattle.command_ends.proofs.Causes.{MayStop-earlier, MayStop-of-file}
 use Rattle.run_command.proofs.Gone.{gone_here, heard_nothing}
@@ -343,6 +344,20 @@ run_is told script groups shape budget accounts text text_now last limits closed
           let at = subst (λ (l : List Account). get_elem? l i ≡ some a) closed.accounts_are there in
           run_pruned shape done.files budget groups done.new accounts done.front done.done limits done.are_new done.are_done i a from at;
     }
+
+-- its searchers have read screened records
+pub run_reads : (told : Option (List File)) (groups : List Group) (shape : Shape) (budget : ℕ) (accounts : List Account)
+    (text : List ℕ) (last : Closing) → IsShape shape → IsClosedWith shape accounts last
+    → HasDone told groups shape budget accounts text → HaveSearched shape last
+run_reads told groups shape budget accounts text last limits closed done = record {
+  shape_is = closed.shape_is;
+  shown = closed.shown;
+  read = λ i a from there.
+      let at = subst (λ (l : List Account). get_elem? l i ≡ some a) closed.accounts_are there in
+      let may = subst (λ (k : Shape). MayBe k closed.shown.words a) closed.shape_is (closed.shown.may i a there) in
+      run_read shape done.files budget groups done.new accounts done.front done.done limits done.are_new done.are_done
+      i a from at closed.shown.words may;
+}
 
 -- ---- the end of a board
 

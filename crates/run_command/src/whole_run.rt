@@ -1,11 +1,12 @@
 // `run`: the jobs of a script, and the report of them.
-ghost use Rattle.std.specs.Prelude.{◌≡◌, ◌≢◌, ℕ, List, [], None, Some, All, IfOk, IfErr};
+ghost use Rattle.std.specs.Prelude.{◌≡◌, ◌≢◌, ℕ, List, [], None, Some, All, IfOk, IfErr, IfSome};
 ghost use Rattle.htss_defs.specs.Shapes.{IsShape};
 ghost use Rattle.script_text.specs.declared.script.Group.{Group};
 ghost use Rattle.command_words.specs.Tasks.{run_of};
 ghost use Rattle.command_ends.specs.Outcomes.{stop_why};
 ghost use Rattle.command_ends.specs.RunText.{ScriptWasRead};
 ghost use Rattle.run_command.specs.Headline.{IsLastOf, IsRunOf};
+ghost use Rattle.run_command.specs.Searchers.{HaveSearched};
 ghost use Rattle.command_ends.specs.Ends.{EndsAs, MayStop, ShelfGoesOn, seen, seen_out};
 ghost use Rattle.run_command.specs.Runs.{AreRising, RunMayStop};
 
@@ -41,6 +42,7 @@ pub fn run<R: Threads + Wait + Sync, F: Shelf, K: Sink>(
         (seen_out K.written K.faults out.old) (seen_out K.written K.faults out.new) result.status }
     ensures last { IsLastOf (F.told shelf.old) script.now shape budget
         (seen_out K.written K.faults out.old) (seen_out K.written K.faults out.new) result.status result.last }
+    ensures read { IfSome result.last (λ last. HaveSearched shape last) }
 {
     let script = match script_of(alloc, script, shelf) {
         Ok(script) => script,
@@ -100,6 +102,8 @@ fn run_script<'a, R: Threads + Wait + Sync, F: Shelf>(
     requires empty { text.old.items ≡ [] }
     ensures text { IfOk result (λ last. (script : List ℕ) → ScriptWasRead (F.told shelf.old) script groups.now
         → IsRunOf (F.told shelf.old) script shape budget text.new.items last) }
+    ensures read { IfOk result (λ last. (script : List ℕ) → ScriptWasRead (F.told shelf.old) script groups.now
+        → HaveSearched shape last) }
     ensures stop { IfErr result (λ stop. RunMayStop (F.told shelf.old) groups.now shape budget
         (seen F.told F.absent F.faults shelf.old) (seen F.told F.absent F.faults shelf.new)
         text.new.items (stop_why stop)) }

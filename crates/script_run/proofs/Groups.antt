@@ -32,7 +32,8 @@ use Rattle.script_run.specs.Working.{AreCallers, OwnBroken, OwnDone}
 use Rattle.script_run.proofs.Callers.{have_met, still_callers, who_there}
 use Rattle.script_run.proofs.Merges.{blocks_in, same_places}
 use Rattle.board_jobs.specs.Pruning.{SearchersStayPruned}
-use Rattle.board_jobs.proofs.Rested.{group_pruned}
+use Rattle.board_jobs.specs.Reading.{SearchersRead}
+use Rattle.board_jobs.proofs.Rested.{group_pruned, group_read}
 use Rattle.script_run.proofs.Places.{IsSeat, agree, loader_seat, one_there, or_there, searcher_seat, there}
 use Rattle.script_run.proofs.Queues.{merged_mapped, merged_queues, one_merged}
 use Rattle.script_run.proofs.Together.{AreOwn, together}
@@ -304,3 +305,22 @@ module _ {G : Type 0} where
       let are = all_done b files budget 0 group.jobs ws xs os shape all did whole in
       group_pruned b.shape (accounts_of ws) files budget 0 group (accounts_of ys) met.most are.done shape (as_many_accounts ys ∙ last.count)
       (record { dealt_are = are.dealt_are; by_files = are.by_files; between = accounts_of xs; jobs = are.are_done; met = have_met xs ys met })
+
+  -- and of screened records
+  pub group_reads : (b : Place) (files : List (ℕ × List ℕ)) (budget : ℕ) (group : Group) (ws xs ys : List (Worker G))
+      (os : List Outcome)
+      → IsShape b.shape → AreCallers b (callers_of ws) → AreCallers b (callers_of ys)
+      → DidAll b files budget group.jobs (callers_of ws) (callers_of xs) os
+      → All (λ (o : Outcome). o.whole ≡ true) os
+      → SawMost (callers_of xs) (callers_of ys) → SearchersRead b.shape (accounts_of ws) (accounts_of ys)
+  group_reads b files budget group ws xs ys os shape all last did whole met =
+      let are = all_done b files budget 0 group.jobs ws xs os shape all did whole in
+      group_read b.shape (accounts_of ws) files budget 0 group (accounts_of ys) met.most are.done shape
+      (as_many_accounts ys ∙ last.count)
+      (record {
+        dealt_are = are.dealt_are;
+        by_files = are.by_files;
+        between = accounts_of xs;
+        jobs = are.are_done;
+        met = have_met xs ys met;
+      })

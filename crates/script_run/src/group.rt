@@ -6,6 +6,7 @@ ghost use Rattle.board_jobs.specs.Ends.{HaveGoneOn};
 ghost use Rattle.board_jobs.specs.Groups.{GroupIsDone};
 ghost use Rattle.board_jobs.specs.Jobs.{IsThere};
 ghost use Rattle.board_jobs.specs.Pruning.{SearchersStayPruned};
+ghost use Rattle.board_jobs.specs.Reading.{SearchersRead};
 ghost use Rattle.script_run.specs.Working.{AreCallers};
 ghost use Rattle.script_run.specs.Walking.{GroupIsBroken};
 ghost use Rattle.script_run.specs.Workers.{accounts_of, callers_of};
@@ -76,6 +77,11 @@ pub fn run_group<R: Threads + Wait + Sync, G: Gate + Send>(
     // A searcher that had loaded nothing since its last answer has loaded nothing since its last one now, and what it has loaded for each
     // search is pruned.
     ensures pruned { IfOk result (λ _. SearchersStayPruned board.now.shape (accounts_of workers.old) (accounts_of workers.new)) }
+
+    // For each of these searches it has loaded names, atoms and bonds of screened records alone, and where it has hits,
+    // all of each of these.
+    ensures read { IfOk result (λ _.
+        SearchersRead board.now.shape (accounts_of workers.old) (accounts_of workers.new)) }
 
     // Each worker's gate was told where it stood before and after each of its jobs, and nothing else.
     ensures gates { IfOk result (λ _. GatesPassed G.passed board.now.shape group.now.jobs workers.old workers.new) }

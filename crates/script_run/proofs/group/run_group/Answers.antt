@@ -2,7 +2,7 @@ use Rattle.std.proofs.Common.{◌≡◌, length, refl, arith}
 use Rattle.board_jobs.proofs.Chained.{if_err, on_err}
 use Rattle.script_run.specs.Workers.{accounts_of, callers_of}
 use Rattle.script_run.proofs.Callers.{all_of, all_workers, met_callers}
-use Rattle.script_run.proofs.Groups.{all_merged, all_queues, all_whole, gone_on, group_broken, group_done, group_prunes, group_unbegun, lent_queues, worked_callers}
+use Rattle.script_run.proofs.Groups.{all_merged, all_queues, all_whole, gone_on, group_broken, group_done, group_prunes, group_reads, group_unbegun, lent_queues, worked_callers}
 use Rattle.script_run.proofs.Gates.{gates_before, gates_front, gates_whole}
 use Rattle.script_run.proofs.group.run_group.Goals as goal
 
@@ -111,3 +111,17 @@ returns-clause-pruned g c =
     (met_callers b (callers_of c.work_all.new.workers) (callers_of c.meet.new.workers)
     (worked_callers b c.args.files.now c.args.budget c.args.group.now.jobs (callers_of c.args.workers.now) (callers_of c.work_all.new.workers) os c.requires.callers c.work_all.ensures.did) c.meet.ensures.after)
     c.work_all.ensures.did (all_whole c.deref.result.now os _ n c.deref.ensures.value all (c.if-not-are_whole.ensures refl)) c.meet.ensures.after
+
+pub returns-clause-read : goal.returns-clause-read
+returns-clause-read g c =
+    let b = c.args.board.now in
+    let os = c.work_all.new.outcomes in
+    let n = c.in_ok-outcomes.outcomes.len in
+    let all : n ≡ length os = omega arith in
+    group_reads b c.args.files.now c.args.budget c.args.group.now c.args.workers.now c.work_all.new.workers
+    c.meet.new.workers os c.shape.ensures.limits c.requires.callers
+    (met_callers b (callers_of c.work_all.new.workers) (callers_of c.meet.new.workers)
+    (worked_callers b c.args.files.now c.args.budget c.args.group.now.jobs (callers_of c.args.workers.now)
+    (callers_of c.work_all.new.workers) os c.requires.callers c.work_all.ensures.did) c.meet.ensures.after)
+    c.work_all.ensures.did (all_whole c.deref.result.now os _ n c.deref.ensures.value all
+    (c.if-not-are_whole.ensures refl)) c.meet.ensures.after
