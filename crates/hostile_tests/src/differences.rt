@@ -29,7 +29,7 @@ const SCRIPTS: u64 = 30;
 const JOBS: u32 = 24;
 
 // The name and the molecule of a record.
-fn record_of(alloc: Global, text: &str) -> Result<(Name, Mol), Fail>
+pub(crate) fn record_of(alloc: Global, text: &str) -> Result<(Name, Mol), Fail>
     ensures { IfOk result (λ r. IsMarked r.1) }
 {
     match read_molfile(alloc, text.as_bytes())? {
@@ -41,7 +41,7 @@ fn record_of(alloc: Global, text: &str) -> Result<(Name, Mol), Fail>
     }
 }
 
-fn query_of(alloc: Global, text: &str) -> Result<Query, Fail> {
+pub(crate) fn query_of(alloc: Global, text: &str) -> Result<Query, Fail> {
     match read_query(alloc, text.as_bytes())? {
         Ok(query) => Ok(query),
         Err(_) => Err("a drawn query that is refused".into()),
@@ -185,7 +185,7 @@ fn load(
     add(rt, &mut story.files, file(alloc, &name, &whole)?)
 }
 
-fn push_hits(text: &mut String, alloc: Global, hits: &HitList) -> Result<(), Fail> {
+pub(crate) fn push_hits(text: &mut String, alloc: Global, hits: &HitList) -> Result<(), Fail> {
     for hit in hits.hits() {
         let Hit { number, name, map } = hit;
         push_hit(text, alloc, *number, map.as_slice(), name)?;
@@ -275,7 +275,7 @@ fn story_of(rt: &impl Abort, alloc: Global, draws: &mut Pcg32) -> Result<Story, 
 }
 
 // The report without the numbers of rows, which no plain registry has.
-fn without_rows(alloc: Global, report: &str) -> Result<String, Fail> {
+pub(crate) fn without_rows(alloc: Global, report: &str) -> Result<String, Fail> {
     let mut text = String::new(alloc);
     for line in report.lines() {
         let mut skips = false;

@@ -7,6 +7,8 @@
 #[cfg(test)]
 mod audits;
 #[cfg(test)]
+mod beside;
+#[cfg(test)]
 mod changed_reports;
 #[cfg(test)]
 mod cut_files;

@@ -155,7 +155,7 @@ const AUDIT: Answer = Answer {
 };
 
 // The report, given in parts, is audited with this script.
-fn is_audited<R: Threads + Wait + Sync + Abort>(
+pub(crate) fn is_audited<R: Threads + Wait + Sync + Abort>(
     rt: &R,
     alloc: Global,
     script: &str,

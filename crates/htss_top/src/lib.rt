@@ -3,6 +3,8 @@
 #![tactic(auto)]
 
 #[cfg(test)]
+mod audit_lines;
+#[cfg(test)]
 mod audit_tests;
 #[cfg(test)]
 mod run_tests;
