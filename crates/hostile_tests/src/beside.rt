@@ -200,29 +200,34 @@ fn publish_again(
     }
 }
 
-// An event of the log is done again.
+// A record is withdrawn again.
+fn withdraw_again(registry: &mut PlainRegistry, line: &str) -> Result<u32, Fail>
+    requires { AreMarked registry.old.events }
+    ensures { OnOk result (AreMarked registry.new.events) }
+{
+    let caller = number_at(line, 3)?.min(255) as u8;
+    let gone = number_at(line, 4)?;
+    match registry.withdraw(caller, gone) {
+        Ok(number) => Ok(number),
+        Err(_) => Err("a withdrawal that no history has".into()),
+    }
+}
+
+// An event of the log is done again. Answers its number.
 fn do_again(
-    rt: &impl Abort,
     alloc: Global,
     registry: &mut PlainRegistry,
     line: &str,
     records: &[String],
-) -> Result<(), Fail>
+) -> Result<u32, Fail>
     requires { AreMarked registry.old.events }
     ensures { OnOk result (AreMarked registry.new.events) }
 {
-    let number = if line.contains(" publish ") {
-        publish_again(alloc, registry, line, records)?
+    if line.contains(" publish ") {
+        publish_again(alloc, registry, line, records)
     } else {
-        let caller = number_at(line, 3)?.min(255) as u8;
-        let gone = number_at(line, 4)?;
-        match registry.withdraw(caller, gone) {
-            Ok(number) => number,
-            Err(_) => return Err("a withdrawal that no history has".into()),
-        }
-    };
-    assert_eq!(rt; number_at(line, 1)?, number);
-    Ok(())
+        withdraw_again(registry, line)
+    }
 }
 
 // The history of the report, done again.
@@ -237,7 +242,8 @@ fn registry_of(
     let mut registry = PlainRegistry::new(alloc, 4000);
     for line in report.lines() {
         if line.starts_with("event ") {
-            do_again(rt, alloc, &mut registry, line, records)?;
+            let number = do_again(alloc, &mut registry, line, records)?;
+            assert_eq!(rt; number_at(line, 1)?, number);
         }
     }
     Ok(registry)
@@ -342,12 +348,12 @@ const SIZES: [Size; 3] = [
     },
     Size {
         files: 8,
-        records: 50,
+        records: 20,
         searches: 60,
     },
     Size {
         files: 24,
-        records: 15,
+        records: 5,
         searches: 60,
     },
 ];

@@ -5,3 +5,4 @@ pub mod Heard
 pub mod Lasts
 pub mod Closed
 mod LateEvent
+pub mod Searched
