@@ -12,7 +12,7 @@ use Rattle.board_core.specs.declared.entry.Reply.{Reply}
 use Rattle.board_core.specs.declared.loads.Lengths.{Lengths}
 use Rattle.board_core.proofs.Lists.{inside, at_end}
 use Rattle.descent.specs.Seats.{CodeLoad}
-use Rattle.board_jobs.specs.Pruning.{ArePrunedFor, SearchesPruned, began_at, between, codes_then, ended_at, facts_then, loaded_for}
+use Rattle.board_jobs.specs.Pruning.{ArePrunedFor, SearchesPruned, began_at, between, codes_then, size_after, facts_then, loaded_for}
 
 -- ---- parts of a list
 
@@ -50,23 +50,23 @@ module _ (size : Lengths → ℕ) where
   began_left from (e ∷ es) fs zero h = refl
   began_left from (e ∷ es) fs (suc i) h = began_left (size e.at) es fs i (omega arith)
 
-  pub began_last : (from : ℕ) (es : List Noted) (f : Noted) → began_at size from (es ++ f ∷ []) (length es) ≡ ended_at size from es
+  pub began_last : (from : ℕ) (es : List Noted) (f : Noted) → began_at size from (es ++ f ∷ []) (length es) ≡ size_after size from es
   began_last from [] f = refl
   began_last from (e ∷ es) f = began_last (size e.at) es f
 
-  pub ended_last : (from : ℕ) (es : List Noted) (f : Noted) → ended_at size from (es ++ f ∷ []) ≡ size f.at
+  pub ended_last : (from : ℕ) (es : List Noted) (f : Noted) → size_after size from (es ++ f ∷ []) ≡ size f.at
   ended_last from [] f = refl
   ended_last from (e ∷ es) f = ended_last (size e.at) es f
 
 -- ---- what is kept of a searcher: at rest, and pruned from an answer on
 
 pub record KeptFrom (first : ℕ) (es : List Noted) (ls : List CodeLoad) (facts : ℕ) : Type 0 where
-  pub codes : ended_at codes_then 0 es ≡ length ls
-  pub words : ended_at facts_then 0 es ≡ facts
+  pub codes : size_after codes_then 0 es ≡ length ls
+  pub words : size_after facts_then 0 es ≡ facts
   pub within : (i : ℕ) (e : Noted) → first ≤ i → get_elem? es i ≡ some e → e.at.codes ≤ length ls
   pub pruned : SearchesPruned first es ls
 
-module _ (first : ℕ) (es : List Noted) (ls ms : List CodeLoad) (facts more : ℕ) (f : Noted) (rest : ended_at codes_then 0 es ≡ length ls) (at : f.at.codes ≡ length (ls ++ ms)) where
+module _ (first : ℕ) (es : List Noted) (ls ms : List CodeLoad) (facts more : ℕ) (f : Noted) (rest : size_after codes_then 0 es ≡ length ls) (at : f.at.codes ≡ length (ls ++ ms)) where
   -- what was loaded for an answer before the new one
   pub loaded_before : (i : ℕ) (e : Noted) → e.at.codes ≤ length ls → get_elem? es i ≡ some e → loaded_for i e (es ++ f ∷ []) (ls ++ ms) ≡ loaded_for i e es ls
   loaded_before i e within there =

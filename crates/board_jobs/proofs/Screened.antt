@@ -27,7 +27,7 @@ use Rattle.searcher.specs.Records.{IsOfScreened, IsTextPlace, ReadsAllScreened, 
 use Rattle.searcher.proofs.Records.{at_before}
 use Rattle.searcher.proofs.Whole.{facts_grown}
 use Rattle.board_jobs.specs.Groups.{with_seen}
-use Rattle.board_jobs.specs.Pruning.{began_at, ended_at, facts_then}
+use Rattle.board_jobs.specs.Pruning.{began_at, size_after, facts_then}
 use Rattle.board_jobs.specs.Reading.{AreRead, IsLoadedFor}
 use Rattle.board_jobs.proofs.Pruned.{began_last, began_left}
 
@@ -68,7 +68,7 @@ read_quiet k first es a b grown same kept = record {
 
 -- one search more
 module _ (k : Shape) (first : ℕ) (es : List Noted) (a b : Account) (f : Noted) (query : QueryGraph) (budget front : ℕ)
-    (told : Reply) (grown : Grows a b) (rest : ended_at facts_then 0 es ≡ length a.loads.facts)
+    (told : Reply) (grown : Grows a b) (rest : size_after facts_then 0 es ≡ length a.loads.facts)
     (entry : f.entry ≡ Answered query budget front told) (at_facts : f.at.facts ≡ length b.loads.facts)
     (read : ReadsScreened k query front a b)
     (all : (hits : List Hit) → told ≡ Hits hits → ReadsAllScreened k query front a b) where

@@ -33,9 +33,9 @@ abbrev pub facts_then : Lengths → ℕ
 facts_then at = at.facts
 
 -- how long a list was at the last of these answers, or 0
-abbrev pub ended_at : (Lengths → ℕ) → ℕ → List Noted → ℕ
-ended_at size from [] = from
-ended_at size from (e ∷ es) = ended_at size (size e.at) es
+abbrev pub size_after : (Lengths → ℕ) → ℕ → List Noted → ℕ
+size_after size from [] = from
+size_after size from (e ∷ es) = size_after size (size e.at) es
 
 -- how long it was at the answer before the one at this place
 abbrev pub began_at : (Lengths → ℕ) → ℕ → List Noted → ℕ → ℕ
@@ -49,8 +49,8 @@ between from to xs = take (to - from) (drop from xs)
 
 -- no code, name, atom or bond word was loaded since the last answer
 pub record IsRested (a : Account) : Type 0 where
-  pub codes : ended_at codes_then 0 (answers_in a.entries) ≡ length a.loads.codes
-  pub facts : ended_at facts_then 0 (answers_in a.entries) ≡ length a.loads.facts
+  pub codes : size_after codes_then 0 (answers_in a.entries) ≡ length a.loads.codes
+  pub facts : size_after facts_then 0 (answers_in a.entries) ≡ length a.loads.facts
 
 -- these code words are pruned by the need of the query's pivot, whatever five codes the rows have that agree with them
 pub record ArePrunedFor (query : QueryGraph) (loads : List CodeLoad) : Type 0 where
