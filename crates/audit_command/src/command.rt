@@ -1,21 +1,19 @@
 // `audit`: a report, held against its script and files.
 ghost use Rattle.std.specs.Prelude.{◌≡◌, ℕ, ◌^◌, ◌<◌, ◌++◌, List, [], Some, length, IfOk, IfErr, OnOk};
 ghost use Rattle.hit_report.specs.RecordLines.{spaced};
-ghost use Rattle.outside.specs.Files.{WasRead};
 ghost use Rattle.command_words.specs.Tasks.{audit_of};
 ghost use Rattle.command_ends.specs.AuditText.{DiffersAt, IsAuditText, audit_line};
 ghost use Rattle.command_ends.specs.Outcomes.{stop_why};
 ghost use Rattle.command_ends.specs.RunText.{ScriptWasRead, jobs_of};
 ghost use Rattle.command_ends.specs.Ends.{EndsAs, MayStop, ShelfGoesOn, seen, seen_out};
-ghost use Rattle.command_ends.specs.Stops.{IsStopOfFile};
 ghost use Rattle.script_files.specs.JobFiles.{AreRising};
 ghost use Rattle.audit_command.specs.Findings.{IsFinding};
 
 use crate::verdicts::judge;
-use command_ends::{Stop, read_stop, refuse, write_answer, write_difference};
+use command_ends::{Stop, read_file, refuse, write_answer, write_difference};
 use hit_report::{append_bytes, append_spaced};
 use htss_defs::OutOfMemory;
-use outside::{Shelf, Sink, read_whole};
+use outside::{Shelf, Sink};
 use report_audit::Verdict;
 use script_files::{read_all_files, script_of};
 use script_text::Script;
@@ -67,32 +65,9 @@ fn find<'a, F: Shelf>(
     ensures goes_on { ShelfGoesOn
         (seen F.told F.absent F.faults shelf.old) (seen F.told F.absent F.faults shelf.new) }
 {
-    let bytes = read_bytes(alloc, report, shelf)?;
+    let bytes = read_file(alloc, report, shelf)?;
     let files = read_all_files(alloc, script.groups.as_slice(), shelf)?;
-    match judge(alloc, script, &files, &bytes) {
-        Ok(verdict) => Ok(verdict),
-        Err(OutOfMemory) => Err(Stop::Memory),
-    }
-}
-
-// The bytes of the file with this name.
-#[inline(never)]
-fn read_bytes<'a, F: Shelf>(
-    alloc: Global,
-    name: &'a str,
-    shelf: &mut F,
-) -> Result<Vec<u8>, Stop<'a>>
-    ensures read { IfOk result (λ bytes. WasRead (F.told shelf.old) name.now bytes.items) }
-    ensures stop { IfErr result (λ stop. IsStopOfFile
-        (seen F.told F.absent F.faults shelf.old) (seen F.told F.absent F.faults shelf.new)
-        name.now (stop_why stop)) }
-    ensures goes_on { ShelfGoesOn
-        (seen F.told F.absent F.faults shelf.old) (seen F.told F.absent F.faults shelf.new) }
-{
-    match read_whole(alloc, shelf, name) {
-        Ok(bytes) => Ok(bytes),
-        Err(stop) => Err(read_stop(stop, name)),
-    }
+    Ok(judge(alloc, script, &files, &bytes)?)
 }
 
 // The text of an audit whose report is one of its own log.
@@ -101,10 +76,8 @@ fn held_text<'a>(alloc: Global, events: u32, searches: u32) -> Result<Vec<u8>, S
     ensures memory { IfErr result (λ stop. stop ≡ Stop.Memory) }
 {
     let mut text = Vec::new(alloc);
-    match push_held(&mut text, events, searches) {
-        Ok(()) => Ok(text),
-        Err(OutOfMemory) => Err(Stop::Memory),
-    }
+    push_held(&mut text, events, searches)?;
+    Ok(text)
 }
 
 fn push_held(text: &mut Vec<u8>, events: u32, searches: u32) -> Result<(), OutOfMemory>

@@ -2,7 +2,9 @@
 #![tactic(auto)]
 
 mod answer;
+mod file;
 mod stop;
 
 pub use answer::{refuse, write_answer, write_difference, write_stopped, write_text};
+pub use file::read_file;
 pub use stop::{Stop, read_stop};

@@ -5,6 +5,7 @@ ghost use Rattle.outside.specs.Causes.{Rose};
 ghost use Rattle.outside.specs.Written.{GrewByFront};
 ghost use Rattle.command_ends.specs.Outcomes.{fault_line, line, read_why, status_why, stop_why};
 
+use htss_defs::OutOfMemory;
 use itoa::Buffer;
 use outside::{Failed, ReadStop, Sink, write_whole};
 
@@ -23,6 +24,14 @@ pub enum Stop<'a> {
     Absent(&'a str),
     /// The file has more bytes than a file may have.
     TooLarge(&'a str),
+}
+
+impl<'a> From<OutOfMemory> for Stop<'a> {
+    ghost from_gives = { λ _ stop. stop ≡ Stop.Memory };
+
+    fn from(_: OutOfMemory) -> Self {
+        Stop::Memory
+    }
 }
 
 /// Why a read of the file with this name stopped.

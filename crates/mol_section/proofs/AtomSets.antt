@@ -7,6 +7,7 @@ use mir.Syntax.{w8}
 use Rattle.std.proofs.lemmas.List.Elements.{All-set, All-get_or}
 use Rattle.htss_defs.specs.declared.mol.Atom.{Atom}
 use Rattle.htss_defs.specs.Molecule.{IsAtom}
+use Rattle.mol_section.specs.AtomLines.{IsAtomFrom}
 use Rattle.mol_section.specs.PropertyLines.{no_atom, no_charge}
 
 pub clear_more : (atoms old : List Atom) (i : ℕ) (changed : Atom) → i < length atoms → length atoms ≡ length old
@@ -26,18 +27,25 @@ clear_more atoms old i changed within long front back is =
 pub clear_left : (atoms old : List Atom) (i : ℕ) (changed : Atom) → drop i atoms ≡ drop i old → drop (i + 1) (set atoms i changed) ≡ drop (i + 1) old
 clear_left atoms old i changed back = drop-set-lt (i + 1) atoms i changed (omega arith) ∙ sym (drop-drop 1 i atoms) ∙ ap (drop 1) back ∙ drop-drop 1 i old
 
-pub charged : (atoms : List Atom) (i : ℕ) (charge : ℤ) (changed : Atom) → i < length atoms → negsuc 14 ≤ℤ charge → charge ≤ℤ pos 15
-    → changed ≡ record (get_or atoms i no_atom) { charge = charge } → All IsAtom atoms → All IsAtom (set atoms i changed)
-charged atoms i charge changed within low high is all =
-    let old : IsAtom (get_or atoms i no_atom) = All-get_or IsAtom atoms i no_atom within all in
-    All-set IsAtom atoms i changed (subst IsAtom (sym is) (record { element = old.element; charge = (low, high); mass = old.mass })) all
+pub charged : (least : ℕ) (atoms : List Atom) (i : ℕ) (charge : ℤ) (changed : Atom) → i < length atoms → negsuc 14 ≤ℤ charge → charge ≤ℤ pos 15
+    → changed ≡ record (get_or atoms i no_atom) { charge = charge } → All (IsAtomFrom least) atoms → All (IsAtomFrom least) (set atoms i changed)
+charged least atoms i charge changed within low high is all =
+    let old : IsAtomFrom least (get_or atoms i no_atom) = All-get_or (IsAtomFrom least) atoms i no_atom within all in
+    All-set (IsAtomFrom least) atoms i changed (subst (IsAtomFrom least) (sym is) (record { element = old.element; charge = (low, high); mass = old.mass })) all
 
-pub weighed : (atoms : List Atom) (i mass : ℕ) (changed : Atom) → i < length atoms → mass ≤ 999
-    → changed ≡ record (get_or atoms i no_atom) { mass = mass } → All IsAtom atoms → All IsAtom (set atoms i changed)
-weighed atoms i mass changed within small is all =
-    let old : IsAtom (get_or atoms i no_atom) = All-get_or IsAtom atoms i no_atom within all in
-    All-set IsAtom atoms i changed (subst IsAtom (sym is) (record { element = old.element; charge = old.charge; mass = small })) all
+pub weighed : (least : ℕ) (atoms : List Atom) (i mass : ℕ) (changed : Atom) → i < length atoms → mass ≤ 999
+    → changed ≡ record (get_or atoms i no_atom) { mass = mass } → All (IsAtomFrom least) atoms → All (IsAtomFrom least) (set atoms i changed)
+weighed least atoms i mass changed within small is all =
+    let old : IsAtomFrom least (get_or atoms i no_atom) = All-get_or (IsAtomFrom least) atoms i no_atom within all in
+    All-set (IsAtomFrom least) atoms i changed (subst (IsAtomFrom least) (sym is) (record { element = old.element; charge = old.charge; mass = small })) all
 
 -- a small charge passes through a byte
 pub passed : (charge : ℤ) → negsuc 14 ≤ℤ charge → charge ≤ℤ pos 15 → to_z w8 (of_z w8 charge) ≡ charge
 passed charge low high = to_z-of_z w8 charge (search (arith, ints))
+
+-- atoms of a molecule have elements from 1 on
+pub from_first : (atoms : List Atom) → All IsAtom atoms → All (IsAtomFrom 1) atoms
+from_first atoms all = λ i d lt. let a = all i d lt in record { element = a.element; charge = a.charge; mass = a.mass }
+
+pub to_first : (atoms : List Atom) → All (IsAtomFrom 1) atoms → All IsAtom atoms
+to_first atoms all = λ i d lt. let a = all i d lt in record { element = a.element; charge = a.charge; mass = a.mass }

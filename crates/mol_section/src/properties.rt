@@ -2,11 +2,11 @@
 ghost use Rattle.std.specs.Prelude.{◌≡◌, ℕ, ◌≤◌, ◌≤ℤ◌, pos, negsuc, true, not, ◌||◌, if◌then◌else◌};
 ghost use Rattle.std.specs.Prelude.{Some, None, is_some, All, length, map, fold, IfSome, IfNone};
 ghost use Rattle.std.specs.Option.{option_map};
-ghost use Rattle.htss_defs.specs.Molecule.{IsAtom};
 ghost use Rattle.mol_section.specs.Fields.{words_of};
 ghost use Rattle.mol_section.specs.SectionLines.{passes_next, property_refusal, line_entries};
 ghost use Rattle.mol_section.specs.SectionLines.{listed_charge, listed_mass, listed_entries};
 ghost use Rattle.mol_section.specs.SectionLines.{lists_charges, lists_masses};
+ghost use Rattle.mol_section.specs.AtomLines.{IsAtomFrom};
 ghost use Rattle.mol_section.specs.PropertyLines.{IsStep, count_at, place_at, entry_at};
 ghost use Rattle.mol_section.specs.PropertyLines.{put_charge, put_mass, no_charge, sets_aside};
 ghost use Rattle.mol_section.specs.PropertyLines.{set_aside, put_charges, put_masses, with_property};
@@ -28,9 +28,8 @@ pub enum Step {
 #[tactic(auto, unfolding(crate::specs::PropertyLines::is_end, crate::specs::PropertyLines::step_refusal, crate::specs::PropertyLines::next_state))]
 pub fn take_line(line: &[u8], passing: bool, aside: bool, atoms: &mut [Atom]) -> Step
     requires few { length atoms.old ≤ 999 }
-    requires valid { All IsAtom atoms.old }
     ensures step { IsStep passing line.now aside atoms.old atoms.new result }
-    ensures valid { All IsAtom atoms.new }
+    ensures valid { (least : ℕ) → All (IsAtomFrom least) atoms.old → All (IsAtomFrom least) atoms.new }
 {
     if passing {
         return Step::Next {
@@ -67,12 +66,11 @@ fn passes_next(line: &[u8]) -> bool
 // set aside. `None`: the line is refused.
 fn take_property(line: &[u8], atoms: &mut [Atom], aside: bool) -> Option<bool>
     requires few { length atoms.old ≤ 999 }
-    requires valid { All IsAtom atoms.old }
     ensures refused { IfNone result (property_refusal (length atoms.old) line.now ≡ Some 11) }
     ensures accepted { IfSome result (λ _. property_refusal (length atoms.old) line.now ≡ None) }
     ensures aside { IfSome result (λ now. now ≡ (aside || sets_aside line.now)) }
     ensures atoms { IfSome result (λ _. atoms.new ≡ with_property aside line.now atoms.old) }
-    ensures valid { All IsAtom atoms.new }
+    ensures valid { (least : ℕ) → All (IsAtomFrom least) atoms.old → All (IsAtomFrom least) atoms.new }
 {
     let now = take_aside(line, atoms, aside);
     if take_charges(line, atoms) && take_masses(line, atoms) {
@@ -85,10 +83,9 @@ fn take_property(line: &[u8], atoms: &mut [Atom], aside: bool) -> Option<bool>
 // Sets the charges of the atom block aside where the line is the first that does, and answers whether they are.
 #[tactic(auto, unfolding(crate::specs::PropertyLines::set_aside))]
 fn take_aside(line: &[u8], atoms: &mut [Atom], aside: bool) -> bool
-    requires { All IsAtom atoms.old }
     ensures aside { result ≡ (aside || sets_aside line.now) }
     ensures atoms { atoms.new ≡ set_aside aside line.now atoms.old }
-    ensures valid { All IsAtom atoms.new }
+    ensures valid { (least : ℕ) → All (IsAtomFrom least) atoms.old → All (IsAtomFrom least) atoms.new }
 {
     if aside {
         return true;
@@ -102,9 +99,8 @@ fn take_aside(line: &[u8], atoms: &mut [Atom], aside: bool) -> bool
 
 // Sets all charges to 0.
 fn clear_charges(atoms: &mut [Atom])
-    requires { All IsAtom atoms.old }
     ensures atoms { atoms.new ≡ map no_charge atoms.old }
-    ensures valid { All IsAtom atoms.new }
+    ensures valid { (least : ℕ) → All (IsAtomFrom least) atoms.old → All (IsAtomFrom least) atoms.new }
 {
     for i in 0..atoms.len() {
         atoms[i] = with_charge(atoms[i], 0);
@@ -115,11 +111,10 @@ fn clear_charges(atoms: &mut [Atom])
 #[tactic(auto, unfolding(crate::specs::PropertyLines::put_charges))]
 fn take_charges(line: &[u8], atoms: &mut [Atom]) -> bool
     requires few { length atoms.old ≤ 999 }
-    requires valid { All IsAtom atoms.old }
     ensures passes { result ≡ (not (lists_charges line.now)
         || is_some (line_entries listed_charge (length atoms.old) line.now)) }
     ensures atoms { result ≡ true → atoms.new ≡ put_charges line.now atoms.old }
-    ensures valid { All IsAtom atoms.new }
+    ensures valid { (least : ℕ) → All (IsAtomFrom least) atoms.old → All (IsAtomFrom least) atoms.new }
 {
     if line.starts_with(b"M  CHG") {
         list_charges(&line[6..], atoms)
@@ -131,11 +126,10 @@ fn take_charges(line: &[u8], atoms: &mut [Atom]) -> bool
 // Puts the charges of a list of entries.
 fn list_charges(text: &[u8], atoms: &mut [Atom]) -> bool
     requires few { length atoms.old ≤ 999 }
-    requires valid { All IsAtom atoms.old }
     ensures read { (if result then Some atoms.new else None)
         ≡ option_map (fold put_charge atoms.old)
         (listed_entries listed_charge (length atoms.old) (words_of text.now)) }
-    ensures valid { All IsAtom atoms.new }
+    ensures valid { (least : ℕ) → All (IsAtomFrom least) atoms.old → All (IsAtomFrom least) atoms.new }
 {
     let Some((count, rest)) = entry_count(text) else {
         return false;
@@ -227,11 +221,10 @@ fn listed_charge(word: &[u8]) -> Option<i8>
 #[tactic(auto, unfolding(crate::specs::PropertyLines::put_masses))]
 fn take_masses(line: &[u8], atoms: &mut [Atom]) -> bool
     requires few { length atoms.old ≤ 999 }
-    requires valid { All IsAtom atoms.old }
     ensures passes { result ≡ (not (lists_masses line.now)
         || is_some (line_entries listed_mass (length atoms.old) line.now)) }
     ensures atoms { result ≡ true → atoms.new ≡ put_masses line.now atoms.old }
-    ensures valid { All IsAtom atoms.new }
+    ensures valid { (least : ℕ) → All (IsAtomFrom least) atoms.old → All (IsAtomFrom least) atoms.new }
 {
     if line.starts_with(b"M  ISO") {
         list_masses(&line[6..], atoms)
@@ -243,11 +236,10 @@ fn take_masses(line: &[u8], atoms: &mut [Atom]) -> bool
 // Puts the masses of a list of entries.
 fn list_masses(text: &[u8], atoms: &mut [Atom]) -> bool
     requires few { length atoms.old ≤ 999 }
-    requires valid { All IsAtom atoms.old }
     ensures read { (if result then Some atoms.new else None)
         ≡ option_map (fold put_mass atoms.old)
         (listed_entries listed_mass (length atoms.old) (words_of text.now)) }
-    ensures valid { All IsAtom atoms.new }
+    ensures valid { (least : ℕ) → All (IsAtomFrom least) atoms.old → All (IsAtomFrom least) atoms.new }
 {
     let Some((count, rest)) = entry_count(text) else {
         return false;

@@ -11,7 +11,7 @@ use Rattle.htss_defs.specs.declared.mol.Atom.{Atom}
 use Rattle.htss_defs.specs.declared.query.AtomTest.{AtomTest}
 use Rattle.htss_defs.specs.declared.query.QueryAtom.{QueryAtom}
 use Rattle.htss_defs.specs.declared.query.QueryBond.{QueryBond}
-use Rattle.htss_defs.specs.Molecule.{IsAtom}
+use Rattle.mol_section.specs.AtomLines.{IsAtomFrom}
 use Rattle.htss_defs.specs.QueryGraph.{QueryGraph, IsAtomTest, IsQueryAtom, IsQueryBond, IsQuery}
 use Rattle.htss_defs.specs.Marked.{IsMarkedQuery, unmarked_query, unmarked_query_bond}
 use Rattle.mol_section.specs.declared.counts.Counts.{Counts}
@@ -24,7 +24,7 @@ use Rattle.query_mol.specs.QueryRecord.{IsAcceptedQuery, query_of, query_bond_of
 use Rattle.query_mol.specs.LineFacts.{told_symbol}
 use Rattle.query_mol.specs.Tests.{told_test, told_tests, list_at}
 use Rattle.query_mol.specs.QueryAtoms.{told_atom, told_atoms}
-use Rattle.query_mol.specs.QueryWalk.{IsQueryRead, bare}
+use Rattle.query_mol.specs.QueryWalk.{IsQueryRead}
 
 -- ---- what was read is a query
 
@@ -37,15 +37,15 @@ long_told (a ∷ atoms) [] told same = absurd (omega arith)
 long_told (a ∷ atoms) (None ∷ tests) told same = absurd cc
 long_told (a ∷ atoms) (Some t ∷ tests) told same = let more = long_told atoms tests told (omega arith) in omega arith
 
-valid_told : (atoms : List Atom) (tests : List (Option AtomTest)) → All IsAtom atoms → All IsTold tests → All IsQueryAtom (told_atoms atoms tests)
+valid_told : (atoms : List Atom) (tests : List (Option AtomTest)) → All (IsAtomFrom 0) atoms → All IsTold tests → All IsQueryAtom (told_atoms atoms tests)
 valid_told [] tests valid told = All-nil IsQueryAtom
 valid_told (a ∷ atoms) [] valid told = All-nil IsQueryAtom
-valid_told (a ∷ atoms) (None ∷ tests) valid told = valid_told atoms tests (All-tail IsAtom a atoms valid) (All-tail IsTold None tests told)
+valid_told (a ∷ atoms) (None ∷ tests) valid told = valid_told atoms tests (All-tail (IsAtomFrom 0) a atoms valid) (All-tail IsTold None tests told)
 valid_told (a ∷ atoms) (Some t ∷ tests) valid told =
-    let one = All-head IsAtom a atoms valid in
+    let one = All-head (IsAtomFrom 0) a atoms valid in
     All-cons IsQueryAtom (record { test = t; charge = a.charge; mass = a.mass }) (told_atoms atoms tests)
     (record { test = All-head IsTold (Some t) tests told; charge = one.charge; mass = one.mass })
-    (valid_told atoms tests (All-tail IsAtom a atoms valid) (All-tail IsTold (Some t) tests told))
+    (valid_told atoms tests (All-tail (IsAtomFrom 0) a atoms valid) (All-tail IsTold (Some t) tests told))
 
 pub IsQuery-read : (lines : List (List ℕ)) (sizes : Counts) (atoms : List Atom) (tests : List (Option AtomTest)) (bonds : List QueryBond) → 1 ≤ sizes.atoms → sizes.atoms ≤ 64 → sizes.bonds ≤ 999
     → IsQueryRead lines sizes atoms tests bonds → IsQuery (record { atoms = told_atoms atoms tests; bonds = bonds })
@@ -67,17 +67,17 @@ Numbered = ℕ × List ℕ
 -- an atom of a query by its two halves
 joined : (xs : List Numbered) (f : Numbered → Atom) (g : Numbered → Option AtomTest) (h : Numbered → QueryAtom)
     → ((x : Numbered) (t : AtomTest) → g x ≡ Some t → ◌≡◌ {A = QueryAtom} (record { test = t; charge = (f x).charge; mass = (f x).mass }) (h x))
-    → list_all (λ t. is_some t) (map g xs) ≡ true → told_atoms (map bare (map f xs)) (map g xs) ≡ map h xs
+    → list_all (λ t. is_some t) (map g xs) ≡ true → told_atoms (map f xs) (map g xs) ≡ map h xs
 joined [] f g h same told = refl
 joined (x ∷ xs) f g h same told = go (g x) refl told (joined xs f g h same)
   where
     go : (o : Option AtomTest) → g x ≡ o → (is_some o && list_all (λ t. is_some t) (map g xs)) ≡ true
-        → (list_all (λ t. is_some t) (map g xs) ≡ true → told_atoms (map bare (map f xs)) (map g xs) ≡ map h xs)
-        → filter_map told_atom ((bare (f x), o) ∷ zip (map bare (map f xs)) (map g xs)) ≡ map h (x ∷ xs)
+        → (list_all (λ t. is_some t) (map g xs) ≡ true → told_atoms (map f xs) (map g xs) ≡ map h xs)
+        → filter_map told_atom ((f x, o) ∷ zip (map f xs) (map g xs)) ≡ map h (x ∷ xs)
     go None is told more = absurd cc
     go (Some t) is told more =
         let here : ◌≡◌ {A = QueryAtom} (record { test = t; charge = (f x).charge; mass = (f x).mass }) (h x) = same x t is in
-        let rest : told_atoms (map bare (map f xs)) (map g xs) ≡ map h xs = more told in
+        let rest : told_atoms (map f xs) (map g xs) ≡ map h xs = more told in
         cc
 
 test_told : (o : Option AtomList) (symbol : List ℕ) (t : AtomTest) → told_test o symbol ≡ Some t → t ≡ test_of o symbol
@@ -105,7 +105,7 @@ by_lines : (lines : List (List ℕ)) → query_of lines ≡ query_by (atom_count
 by_lines lines = refl
 
 atoms_by : (size : ℕ) (lists properties atom_lines : List (List ℕ)) → list_all (λ t. is_some t) (told_tests size lists properties atom_lines) ≡ true
-    → told_atoms (map bare (made_atoms size properties atom_lines)) (told_tests size lists properties atom_lines) ≡ map (atom_by size lists properties) (zip (range_with_len 1 (length atom_lines)) atom_lines)
+    → told_atoms (made_atoms size properties atom_lines) (told_tests size lists properties atom_lines) ≡ map (atom_by size lists properties) (zip (range_with_len 1 (length atom_lines)) atom_lines)
 atoms_by size lists properties atom_lines told =
     joined (zip (range_with_len 1 (length atom_lines)) atom_lines) (atom_of size properties) (λ (x : Numbered). told_test (list_at size lists properties x.0) (field 32 34 x.1)) (atom_by size lists properties)
     (λ x t is. ap (λ (a : AtomTest). record { test = a; charge = (atom_of size properties x).charge; mass = (atom_of size properties x).mass }) (test_told (list_at size lists properties x.0) (field 32 34 x.1) t is))
@@ -120,7 +120,7 @@ pub query_of-read : (lines : List (List ℕ)) (sizes : Counts) (atoms : List Ato
 query_of-read lines sizes atoms tests bonds r =
     let told : list_all (λ t. is_some t) (told_tests sizes.atoms r.lists r.properties r.atom_lines) ≡ true = ap (list_all (λ t. is_some t)) (sym r.tests_are) ∙ r.told in
     let atoms_are : told_atoms atoms tests ≡ map (atom_by sizes.atoms r.lists r.properties) (zip (range_with_len 1 (length r.atom_lines)) r.atom_lines) =
-    ap (λ (a : List Atom). told_atoms a tests) r.atoms_are ∙ ap (told_atoms (map bare (made_atoms sizes.atoms r.properties r.atom_lines))) r.tests_are ∙ atoms_by sizes.atoms r.lists r.properties r.atom_lines told in
+    ap (λ (a : List Atom). told_atoms a tests) r.atoms_are ∙ ap (told_atoms (made_atoms sizes.atoms r.properties r.atom_lines)) r.tests_are ∙ atoms_by sizes.atoms r.lists r.properties r.atom_lines told in
     let bonds_are : map unmarked_query_bond bonds ≡ map query_bond_of r.bond_lines = ap (map unmarked_query_bond) r.bonds_are ∙ no_flags r.bond_lines in
     ap (λ (a : List QueryAtom). record { atoms = a; bonds = map unmarked_query_bond bonds }) atoms_are
     ∙ ap (λ (b : List QueryBond). record { atoms = map (atom_by sizes.atoms r.lists r.properties) (zip (range_with_len 1 (length r.atom_lines)) r.atom_lines); bonds = b }) bonds_are

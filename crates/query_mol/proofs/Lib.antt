@@ -5,6 +5,5 @@ pub mod Steps
 pub mod QueryBlocks
 pub mod QueryBonds
 pub mod Told
-pub mod Bare
 pub mod QueryEnds
 pub mod Joined

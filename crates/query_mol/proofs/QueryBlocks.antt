@@ -6,7 +6,7 @@ use Rattle.std.proofs.lemmas.List.{append-nil, map-append, length_push}
 use Rattle.std.proofs.lemmas.List.Elements.{All-nil, All-push}
 use Rattle.htss_defs.specs.declared.mol.Atom.{Atom}
 use Rattle.htss_defs.specs.declared.query.AtomTest.{AtomTest}
-use Rattle.htss_defs.specs.Molecule.{IsAtom}
+use Rattle.mol_section.specs.AtomLines.{IsAtomFrom}
 use Rattle.htss_defs.specs.QueryGraph.{IsAtomTest, IsQueryBond}
 use Rattle.mol_section.specs.declared.counts.Counts.{Counts}
 use Rattle.mol_section.specs.Fields.{field}
@@ -21,7 +21,7 @@ use Rattle.query_mol.specs.QueryLines.{query_atom_refusal}
 use Rattle.query_mol.specs.QueryRecord.{query_refusal, query_counts_refusal}
 use Rattle.query_mol.specs.LineFacts.{SaysQueryAtom, value_or_none}
 use Rattle.query_mol.specs.Tests.{told_test, told_tests, list_at}
-use Rattle.query_mol.specs.QueryWalk.{IsQueryStop, IsQueryPassed, AtQueryHeader, AtQueryAtoms, bare}
+use Rattle.query_mol.specs.QueryWalk.{IsQueryStop, IsQueryPassed, AtQueryHeader, AtQueryAtoms}
 use Rattle.query_mol.proofs.QueryPassing.{current, pass, stops, runs_out}
 
 abbrev IsTold : Option AtomTest → Type 0
@@ -132,7 +132,7 @@ AtQueryCounts-line lines all rest line sizes atoms tests is short accepted fa fb
             properties = [];
             passed = subst (λ (x : List Kind). IsQueryPassed lines 4 rest (kinds_left x rest) [] [] [] []) todo passed;
             atoms_are = na;
-            valid_atoms = subst (All IsAtom) (sym na) (All-nil IsAtom);
+            valid_atoms = subst (All (IsAtomFrom 0)) (sym na) (All-nil (IsAtomFrom 0));
             tests_are = nt;
             valid_tests = subst (All IsTold) (sym nt) (All-nil IsTold);
             bonds_are = refl;
@@ -159,11 +159,11 @@ atom_refusal_is : (lines : List (List ℕ)) (n : ℕ) (line : List ℕ) (code : 
 atom_refusal_is lines n line code here short refused =
     fits (line_at lines n) (query_atom_refusal (line_at lines n)) (subst (λ (x : List ℕ). length x ≤ 4096) (sym here) short) ∙ ap query_atom_refusal here ∙ refused
 
-says_atom : (size place : ℕ) (line : List ℕ) (says : AtomLine) → SaysQueryAtom line says → says.atom ≡ bare (atom_of size [] (place, line))
+says_atom : (size place : ℕ) (line : List ℕ) (says : AtomLine) → SaysQueryAtom line says → says.atom ≡ atom_of size [] (place, line)
 says_atom size place line says s =
     ap (λ (k : ℕ). record { element = k; charge = says.atom.charge; mass = says.atom.mass }) s.element
-    ∙ ap (λ (k : ℕ). record { element = 1; charge = says.atom.charge; mass = k }) s.mass
-    ∙ ap (λ (o : Option ℤ). record { element = 1; charge = unwrap_or o (pos 0); mass = (value_or_none (field 32 34 line)).1 }) (sym s.charge)
+    ∙ ap (λ (k : ℕ). record { element = (value_or_none (field 32 34 line)).0; charge = says.atom.charge; mass = k }) s.mass
+    ∙ ap (λ (o : Option ℤ). record { element = (value_or_none (field 32 34 line)).0; charge = unwrap_or o (pos 0); mass = (value_or_none (field 32 34 line)).1 }) (sym s.charge)
 
 abbrev tell : ℕ → List (List ℕ) → List (List ℕ) → ℕ × List ℕ → Option AtomTest
 tell size lists properties (place, line) = told_test (list_at size lists properties place) (field 32 34 line)
@@ -179,7 +179,7 @@ AtQueryAtoms-line lines all rest line sizes n i atoms longer tests told says is 
         let p = left_atoms sizes i lt d.passed in
         let none : d.properties ≡ [] = at.no_properties in
         let accepted : query_refusal lines n atom ≡ None = atom_refusal_is lines n line None (current p) short s.passes in
-        let before : atoms ≡ map bare (made_atoms sizes.atoms [] d.atom_lines) = d.atoms_are ∙ ap (λ (x : List (List ℕ)). map bare (made_atoms sizes.atoms x d.atom_lines)) none in
+        let before : atoms ≡ made_atoms sizes.atoms [] d.atom_lines = d.atoms_are ∙ ap (λ (x : List (List ℕ)). made_atoms sizes.atoms x d.atom_lines) none in
         let before_tests : tests ≡ told_tests sizes.atoms [] [] d.atom_lines = d.tests_are ∙ ap (λ (x : List (List ℕ)). told_tests sizes.atoms x d.properties d.atom_lines) at.no_lists
         ∙ ap (λ (x : List (List ℕ)). told_tests sizes.atoms [] x d.atom_lines) none in
         record {
@@ -190,11 +190,10 @@ AtQueryAtoms-line lines all rest line sizes n i atoms longer tests told says is 
             properties = [];
             passed = pass p (d.atom_lines ++ line ∷ []) [] [] [] accepted refl refl (append-nil d.bond_lines ∙ at.no_bonds) (append-nil d.lists ∙ at.no_lists) (append-nil d.properties ∙ none);
             atoms_are = longer-is ∙ ap (λ (x : List Atom). x ++ says.atom ∷ []) before
-                ∙ ap (λ (x : Atom). map bare (made_atoms sizes.atoms [] d.atom_lines) ++ x ∷ []) (says_atom sizes.atoms (1 + length d.atom_lines) line says s)
-                ∙ sym (map-append bare (made_atoms sizes.atoms [] d.atom_lines) (atom_of sizes.atoms [] (1 + length d.atom_lines, line) ∷ []))
-                ∙ ap (map bare) (sym (map-append (atom_of sizes.atoms []) _ ((1 + length d.atom_lines, line) ∷ []))
-                ∙ sym (ap (map (atom_of sizes.atoms [])) (numbered-push 1 d.atom_lines line)));
-            valid_atoms = subst (All IsAtom) (sym longer-is) (All-push IsAtom atoms says.atom d.valid_atoms s.valid);
+                ∙ ap (λ (x : Atom). made_atoms sizes.atoms [] d.atom_lines ++ x ∷ []) (says_atom sizes.atoms (1 + length d.atom_lines) line says s)
+                ∙ sym (map-append (atom_of sizes.atoms []) _ ((1 + length d.atom_lines, line) ∷ []))
+                ∙ sym (ap (map (atom_of sizes.atoms [])) (numbered-push 1 d.atom_lines line));
+            valid_atoms = subst (All (IsAtomFrom 0)) (sym longer-is) (All-push (IsAtomFrom 0) atoms says.atom d.valid_atoms s.valid);
             tests_are = told-is ∙ ap (λ (x : List (Option AtomTest)). x ++ says.test ∷ []) before_tests
                 ∙ ap (λ (x : Option AtomTest). told_tests sizes.atoms [] [] d.atom_lines ++ x ∷ []) s.test
                 ∙ sym (map-append (tell sizes.atoms [] []) _ ((1 + length d.atom_lines, line) ∷ []))

@@ -4,12 +4,12 @@ use Rattle.std.specs.Prelude.{Option, Some, None, IfSome, is_some, if◌then◌e
 use Rattle.std.specs.List.{zip, range_with_len, list_any, list_all}
 use Rattle.std.specs.Str.{bytes_eq}
 use Rattle.std.proofs.lemmas.Bool.{cond-true, cases_Bool}
-use Rattle.std.proofs.lemmas.List.{append-nil, length-map}
+use Rattle.std.proofs.lemmas.List.{append-nil}
 use lib.Chars.{codes}
 use Rattle.htss_defs.specs.declared.mol.Atom.{Atom}
 use Rattle.htss_defs.specs.declared.query.AtomTest.{AtomTest}
 use Rattle.htss_defs.specs.declared.query.QueryBond.{QueryBond}
-use Rattle.htss_defs.specs.Molecule.{IsAtom}
+use Rattle.mol_section.specs.AtomLines.{IsAtomFrom}
 use Rattle.htss_defs.specs.QueryGraph.{IsAtomTest}
 use Rattle.mol_section.specs.declared.counts.Counts.{Counts}
 use Rattle.mol_section.specs.Fields.{field, begins}
@@ -25,11 +25,10 @@ use Rattle.query_mol.specs.QueryLines.{AtomList, old_list_of, new_list_of, is_ne
 use Rattle.query_mol.specs.QueryRecord.{AcceptsQueryLines, symbol_test, query_refusal, lacks_list, list_lines}
 use Rattle.query_mol.specs.LineFacts.{told_symbol}
 use Rattle.query_mol.specs.Tests.{told_test, told_tests, list_at, with_list, with_new_list, query_step_refusal, next_tests}
-use Rattle.query_mol.specs.QueryWalk.{IsQueryStop, IsQueryPassed, IsQueryDraft, AreQueryLines, AtQueryLists, AtQueryProperties, IsQueryRead, bare}
+use Rattle.query_mol.specs.QueryWalk.{IsQueryStop, IsQueryPassed, IsQueryDraft, AreQueryLines, AtQueryLists, AtQueryProperties, IsQueryRead}
 use Rattle.query_mol.proofs.QueryPassing.{current, pass, stops, runs_out, gathered, whole}
 use Rattle.query_mol.proofs.QueryBlocks.{block_fault, short_here}
 use Rattle.query_mol.proofs.Told.{told_old, told_new, valid_list, valid_new, long_list, long_new}
-use Rattle.query_mol.proofs.Bare.{property_bare}
 
 -- other kinds are left, which are the same
 left_same : {lines rest : List (List ℕ)} {n size : ℕ} {aside : Bool} {atoms : List Atom} {tests : List (Option AtomTest)} {bonds : List QueryBond} (left other : List Kind) → left ≡ other → IsQueryDraft lines n rest left size aside atoms tests bonds
@@ -72,7 +71,7 @@ AtQueryLists-line lines all rest line sizes n i atoms tests told bonds is lt sho
             properties = [];
             passed = pass p d.atom_lines d.bond_lines (d.lists ++ line ∷ []) [] (list_refusal_is lines n sizes.atoms line true (current p) (short_here p short) d.size_is some') refl
                 (append-nil d.atom_lines) (append-nil d.bond_lines) refl (append-nil d.properties ∙ none);
-            atoms_are = d.atoms_are ∙ ap (λ (x : List (List ℕ)). map bare (made_atoms sizes.atoms x d.atom_lines)) none;
+            atoms_are = d.atoms_are ∙ ap (λ (x : List (List ℕ)). made_atoms sizes.atoms x d.atom_lines) none;
             valid_atoms = d.valid_atoms;
             tests_are = told-is ∙ ap (λ (k : ℕ). with_list tests (old_list_of k line)) at.all_tests ∙ ap (λ (x : List (Option AtomTest)). with_list x (old_list_of sizes.atoms line)) before
                 ∙ told_old sizes.atoms d.lists d.atom_lines line some';
@@ -177,7 +176,7 @@ over_line sizes passing next short kinds at = record { draft = skipped passing n
 with_line : (lines rest : List (List ℕ)) (line : List ℕ) (sizes : Counts) (n : ℕ) (aside now : Bool) (atoms changed : List Atom) (tests told : List (Option AtomTest)) (bonds : List QueryBond) → length line ≤ 4096
     → kinds_after false (line ∷ rest) ≡ property ∷ kinds_after false rest
     → query_property_refusal sizes.atoms line ≡ None → (not (is_new_list line) || is_some (new_list_of sizes.atoms line)) ≡ true
-    → (aside || sets_aside line) ≡ now → with_property aside line atoms ≡ changed → with_new_list sizes.atoms line tests ≡ told → All IsAtom changed
+    → (aside || sets_aside line) ≡ now → with_property aside line atoms ≡ changed → with_new_list sizes.atoms line tests ≡ told → All (IsAtomFrom 0) changed
     → AtQueryProperties lines sizes n false (line ∷ rest) aside atoms tests bonds → AtQueryProperties lines sizes (n + 1) false rest now changed told bonds
 with_line lines rest line sizes n aside now atoms changed tests told bonds short kinds passes well now-is changed-is told-is valid at =
     let d = at.draft in
@@ -185,11 +184,10 @@ with_line lines rest line sizes n aside now atoms changed tests told bonds short
     let size : ℕ = sizes.atoms in
     let accepted : query_refusal lines n property ≡ None = property_refusal_is lines n sizes.atoms line None (current p) (short_here p short) d.size_is passes in
     let long : length d.atom_lines ≡ sizes.atoms =
-    sym (ap length d.atoms_are ∙ length-map (made_atoms sizes.atoms d.properties d.atom_lines) bare ∙ length-made (atom_of sizes.atoms d.properties) 1 d.atom_lines) ∙ at.all_atoms in
-    let are : changed ≡ map bare (made_atoms sizes.atoms (d.properties ++ line ∷ []) d.atom_lines) = sym changed-is ∙ ap (λ (b : Bool). with_property b line atoms) d.aside_is
+    sym (ap length d.atoms_are ∙ length-made (atom_of sizes.atoms d.properties) 1 d.atom_lines) ∙ at.all_atoms in
+    let are : changed ≡ made_atoms sizes.atoms (d.properties ++ line ∷ []) d.atom_lines = sym changed-is ∙ ap (λ (b : Bool). with_property b line atoms) d.aside_is
     ∙ ap (with_property (sets_charges_aside d.properties) line) d.atoms_are
-    ∙ property_bare (sets_charges_aside d.properties) line (made_atoms sizes.atoms d.properties d.atom_lines)
-    ∙ ap (map bare) (made_atoms-push sizes.atoms d.properties line d.atom_lines long) in
+    ∙ made_atoms-push sizes.atoms d.properties line d.atom_lines long in
     record {
       draft = record {
         atom_lines = d.atom_lines;
@@ -207,7 +205,7 @@ with_line lines rest line sizes n aside now atoms changed tests told bonds short
         aside_is = sym now-is ∙ ap (λ (b : Bool). b || sets_aside line) d.aside_is ∙ sym (aside-push d.properties line);
         size_is = d.size_is;
       };
-      all_atoms = ap length are ∙ length-map (made_atoms sizes.atoms (d.properties ++ line ∷ []) d.atom_lines) bare ∙ length-made (atom_of sizes.atoms (d.properties ++ line ∷ [])) 1 d.atom_lines ∙ long;
+      all_atoms = ap length are ∙ length-made (atom_of sizes.atoms (d.properties ++ line ∷ [])) 1 d.atom_lines ∙ long;
       all_tests = sym (ap length told-is) ∙ long_new sizes.atoms line tests ∙ at.all_tests;
       all_bonds = at.all_bonds;
     }
@@ -223,7 +221,7 @@ lists_well n line passes = go (not (is_some (property_refusal n line))) (not (is
 
 pub AtQueryProperties-line : (lines all rest : List (List ℕ)) (line : List ℕ) (sizes : Counts) (n : ℕ) (passing aside next now : Bool) (atoms changed : List Atom) (tests told : List (Option AtomTest)) (bonds : List QueryBond)
     → all ≡ line ∷ rest → length line ≤ 4096 → is_end passing line ≡ false → query_step_refusal (length atoms) passing line ≡ None → next_state passing line aside atoms ≡ (next, now, changed)
-    → next_tests (length atoms) passing line tests ≡ told → All IsAtom changed
+    → next_tests (length atoms) passing line tests ≡ told → All (IsAtomFrom 0) changed
     → AtQueryProperties lines sizes n passing all aside atoms tests bonds → AtQueryProperties lines sizes (n + 1) next rest now changed told bonds
 unfolding is_end query_step_refusal next_state next_tests
 AtQueryProperties-line lines all rest line sizes n passing aside next now atoms changed tests told bonds is short other passes state tests-are valid at =

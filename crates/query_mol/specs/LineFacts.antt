@@ -5,10 +5,10 @@ use lib.Chars.{codes}
 use Rattle.htss_defs.specs.declared.query.AtomTest.{AtomTest}
 use Rattle.htss_defs.specs.declared.query.QueryBond.{QueryBond}
 use Rattle.htss_defs.specs.Graph.{Graph, AreApart}
-use Rattle.htss_defs.specs.Molecule.{IsAtom}
 use Rattle.htss_defs.specs.QueryGraph.{IsAtomTest, IsQueryBond, query_bond_ends}
 use Rattle.mol_section.specs.Fields.{field, number_of}
 use Rattle.mol_section.specs.SectionLines.{first_code, is_place, bond_first, bond_second, bond_kind, ends_of, symbol_value, charge_value}
+use Rattle.mol_section.specs.AtomLines.{IsAtomFrom}
 use Rattle.mol_section.specs.BondLines.{is_taken}
 use Rattle.query_mol.specs.declared.atoms.AtomLine.{AtomLine}
 use Rattle.query_mol.specs.QueryLines.{query_atom_refusal, topology_value}
@@ -28,8 +28,8 @@ pub record SaysQueryAtom (line : List ℕ) (says : AtomLine) : Type 0 where
   pub test : says.test ≡ told_symbol (field 32 34 line)
   pub mass : says.atom.mass ≡ (value_or_none (field 32 34 line)).1
   pub charge : charge_value (field 37 39 line) ≡ Some says.atom.charge
-  pub element : says.atom.element ≡ 1
-  pub valid : IsAtom says.atom
+  pub element : says.atom.element ≡ (value_or_none (field 32 34 line)).0
+  pub valid : IsAtomFrom 0 says.atom
   pub valid_test : IfSome says.test IsAtomTest
 
 -- the refusal of a bond line, where the bonds before it are those of the graph

@@ -5,10 +5,10 @@ use Rattle.std.specs.List.{zip, filter_map, list_all}
 use Rattle.htss_defs.specs.declared.mol.Atom.{Atom}
 use Rattle.htss_defs.specs.declared.query.AtomTest.{AtomTest}
 use Rattle.htss_defs.specs.declared.query.QueryBond.{QueryBond}
-use Rattle.htss_defs.specs.Molecule.{IsAtom}
 use Rattle.htss_defs.specs.Graph.{Graph}
 use Rattle.htss_defs.specs.QueryGraph.{IsAtomTest, IsQueryBond, AreQueryBondsApart, query_bond_ends}
 use Rattle.mol_section.specs.declared.counts.Counts.{Counts}
+use Rattle.mol_section.specs.AtomLines.{IsAtomFrom}
 use Rattle.mol_section.specs.SectionLines.{Kind, atom, bond, atom_list, property, end_mark, kinds_of, kinds_after, block_kinds}
 use Rattle.mol_section.specs.SectionLines.{atom_count, bond_lines_before}
 use Rattle.mol_section.specs.SectionRecord.{HasEnd, lines_of_kind, sets_charges_aside}
@@ -52,10 +52,6 @@ pub record AreQueryLines (lines atoms bonds lists properties : List (List ℕ)) 
   pub lists_are : list_lines lines ≡ lists
   pub properties_are : lines_of_kind property lines ≡ properties
 
--- the atom as an atom that stands for no element keeps it
-abbrev pub bare : Atom → Atom
-bare a = record a { element = 1 }
-
 -- what was read of the lines that are passed
 pub record IsQueryDraft (lines : List (List ℕ)) (n : ℕ) (rest : List (List ℕ)) (left : List Kind) (size : ℕ) (aside : Bool)
     (atoms : List Atom) (tests : List (Option AtomTest)) (bonds : List QueryBond) : Type 0 where
@@ -64,8 +60,8 @@ pub record IsQueryDraft (lines : List (List ℕ)) (n : ℕ) (rest : List (List �
   pub lists : List (List ℕ)
   pub properties : List (List ℕ)
   pub passed : IsQueryPassed lines n rest left atom_lines bond_lines lists properties
-  pub atoms_are : atoms ≡ map bare (made_atoms size properties atom_lines)
-  pub valid_atoms : All IsAtom atoms
+  pub atoms_are : atoms ≡ made_atoms size properties atom_lines
+  pub valid_atoms : All (IsAtomFrom 0) atoms
   pub tests_are : tests ≡ told_tests size lists properties atom_lines
   pub valid_tests : All (λ t. IfSome t IsAtomTest) tests
   pub bonds_are : bonds ≡ map query_bond_of bond_lines
@@ -133,8 +129,8 @@ pub record IsQueryRead (lines : List (List ℕ)) (sizes : Counts)
   pub are : AreQueryLines lines atom_lines bond_lines lists properties
   pub passes : AcceptsQueryLines lines (length lines)
   pub ends : HasEnd lines
-  pub atoms_are : atoms ≡ map bare (made_atoms sizes.atoms properties atom_lines)
-  pub valid_atoms : All IsAtom atoms
+  pub atoms_are : atoms ≡ made_atoms sizes.atoms properties atom_lines
+  pub valid_atoms : All (IsAtomFrom 0) atoms
   pub tests_are : tests ≡ told_tests sizes.atoms lists properties atom_lines
   pub valid_tests : All (λ t. IfSome t IsAtomTest) tests
   pub told : list_all (λ t. is_some t) tests ≡ true

@@ -8,8 +8,8 @@ ghost use Rattle.query_mol.specs.LineFacts.{SaysQueryAtom, told_symbol, value_or
 use htss_defs::{Atom, AtomTest};
 use mol_section::{charge_value, field, symbol_value};
 
-/// What an atom line says: the test, or none where a list is to give it, and an atom that keeps the charge and the
-/// mass.
+/// What an atom line says: the test, or none where a list is to give it, and the atom, whose element is 0 where the
+/// symbol is none of the table.
 #[derive(Clone, Copy, Debug)]
 pub struct AtomLine {
     pub test: Option<AtomTest>,
@@ -34,23 +34,26 @@ pub fn atom_of(line: &[u8]) -> Result<AtomLine, u8>
     Ok(AtomLine {
         test: says.test,
         atom: Atom {
-            element: 1,
+            element: says.element,
             charge,
             mass: says.mass,
         },
     })
 }
 
-// What a symbol says: its test, where it gives one by itself, and its mass.
+// What a symbol says: its test, where it gives one by itself, its element, 0 where the table has none, and its mass.
 #[derive(Clone, Copy)]
 struct Symbol {
     test: Option<AtomTest>,
+    element: u8,
     mass: u16,
 }
 
 fn symbol_of(symbol: &[u8]) -> Option<Symbol>
     ensures known { is_some result ≡ (is_query_symbol symbol.now || is_some (symbol_value symbol.now)) }
     ensures test { IfSome result (λ says. says.test ≡ told_symbol symbol.now) }
+    ensures element { IfSome result (λ says. says.element ≡ (value_or_none symbol.now).0) }
+    ensures high { IfSome result (λ says. says.element ≤ 118) }
     ensures mass { IfSome result (λ says. says.mass ≡ (value_or_none symbol.now).1) }
     ensures light { IfSome result (λ says. says.mass ≤ 999) }
     ensures valid { IfSome result (λ says. IfSome says.test IsAtomTest) }
@@ -58,12 +61,14 @@ fn symbol_of(symbol: &[u8]) -> Option<Symbol>
     match symbol_value(symbol) {
         Some((element, mass)) => Some(Symbol {
             test: told_symbol(symbol, element),
+            element,
             mass,
         }),
         None => {
             if is_query_symbol(symbol) {
                 Some(Symbol {
                     test: told_symbol(symbol, 0),
+                    element: 0,
                     mass: 0,
                 })
             } else {

@@ -1,7 +1,7 @@
 // What the lines of lists and the lines after the blocks make of the atoms and their tests.
 ghost use Rattle.std.specs.Prelude.{◌≡◌, ℕ, ◌-◌, ◌≤◌, ◌&&◌, ◌||◌, Some, true, false, not, is_some};
 ghost use Rattle.std.specs.Prelude.{All, length, slice_set, if◌then◌else◌};
-ghost use Rattle.htss_defs.specs.Molecule.{IsAtom};
+ghost use Rattle.mol_section.specs.AtomLines.{IsAtomFrom};
 ghost use Rattle.query_mol.specs.QueryLines.{old_list_of, new_list_of, is_new_list};
 ghost use Rattle.query_mol.specs.Tests.{IsQueryStep, listed_test, with_list, with_new_list};
 
@@ -27,10 +27,9 @@ pub fn take_line(
     tests: &mut [Option<AtomTest>],
 ) -> QueryStep
     requires few { length atoms.old ≤ 999 }
-    requires valid { All IsAtom atoms.old }
     requires same { length tests.old ≡ length atoms.old }
     ensures step { IsQueryStep passing line.now aside atoms.old tests.old atoms.new tests.new result }
-    ensures valid { All IsAtom atoms.new }
+    ensures valid { All (IsAtomFrom 0) atoms.old → All (IsAtomFrom 0) atoms.new }
 {
     match mol_section::take_line(line, passing, aside, atoms) {
         Step::End => QueryStep::End,

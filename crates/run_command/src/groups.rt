@@ -91,10 +91,8 @@ fn do_group<'a, R: Threads + Wait + Sync, F: Shelf>(
         (seen F.told F.absent F.faults shelf.old) (seen F.told F.absent F.faults shelf.new) }
 {
     let files = read_files(alloc, group.jobs.as_slice(), shelf)?;
-    match append_group(rt, alloc, board, workers, group, &files, budget, text) {
-        Ok(()) => Ok(()),
-        Err(OutOfMemory) => Err(Stop::Memory),
-    }
+    append_group(rt, alloc, board, workers, group, &files, budget, text)?;
+    Ok(())
 }
 
 // Does the jobs of a group and appends their blocks, after the first line where there is no text yet.

@@ -110,10 +110,7 @@ fn run_script<'a, R: Threads + Wait + Sync, F: Shelf>(
     ensures goes_on { ShelfGoesOn
         (seen F.told F.absent F.faults shelf.old) (seen F.told F.absent F.faults shelf.new) }
 {
-    let (board, mut workers, seats) = match open(alloc, shape) {
-        Ok(opened) => opened,
-        Err(OutOfMemory) => return Err(Stop::Memory),
-    };
+    let (board, mut workers, seats) = open(alloc, shape)?;
     let outcome = run_groups(
         rt,
         alloc,
@@ -125,12 +122,7 @@ fn run_script<'a, R: Threads + Wait + Sync, F: Shelf>(
         text,
     );
     let last = close(board, workers, seats);
-    match outcome {
-        Ok(()) => {}
-        Err(stop) => return Err(stop),
-    }
-    match append_history(alloc, text, &last) {
-        Ok(()) => Ok(last),
-        Err(OutOfMemory) => Err(Stop::Memory),
-    }
+    outcome?;
+    append_history(alloc, text, &last)?;
+    Ok(last)
 }

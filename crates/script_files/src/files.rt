@@ -9,9 +9,8 @@ ghost use Rattle.command_ends.specs.Ends.{ShelfGoesOn, seen};
 ghost use Rattle.command_ends.specs.Stops.{IsStopOfFile};
 ghost use Rattle.script_files.specs.JobFiles.{AreRising, HaveFiles, IsAfter, StopsAmong};
 
-use command_ends::{Stop, read_stop};
-use htss_defs::OutOfMemory;
-use outside::{Shelf, read_whole};
+use command_ends::{Stop, read_file};
+use outside::Shelf;
 use script_text::{Files, Group, Job, Order};
 use std::alloc::Global;
 
@@ -57,9 +56,9 @@ pub fn read_all_files<'a, F: Shelf>(
     Ok(files)
 }
 
-/// Adds the files of these jobs to those of jobs that stand before them.
+// Adds the files of these jobs to those of jobs that stand before them.
 #[inline(never)]
-pub fn add_files<'a, F: Shelf>(
+fn add_files<'a, F: Shelf>(
     alloc: Global,
     jobs: &'a [Job],
     shelf: &mut F,
@@ -120,12 +119,7 @@ fn read_into<'a, F: Shelf>(
     ensures goes_on { ShelfGoesOn
         (seen F.told F.absent F.faults shelf.old) (seen F.told F.absent F.faults shelf.new) }
 {
-    let bytes = match read_whole(alloc, shelf, name) {
-        Ok(bytes) => bytes,
-        Err(stop) => return Err(read_stop(stop, name)),
-    };
-    match files.put(line, bytes) {
-        Ok(()) => Ok(()),
-        Err(OutOfMemory) => Err(Stop::Memory),
-    }
+    let bytes = read_file(alloc, name, shelf)?;
+    files.put(line, bytes)?;
+    Ok(())
 }

@@ -4,5 +4,5 @@
 mod files;
 mod script;
 
-pub use files::{add_files, read_all_files, read_files};
+pub use files::{read_all_files, read_files};
 pub use script::script_of;

@@ -6,9 +6,8 @@ ghost use Rattle.command_ends.specs.RunText.{ScriptWasRead};
 ghost use Rattle.command_ends.specs.Ends.{MayStop, ShelfGoesOn, seen};
 ghost use Rattle.script_files.specs.JobFiles.{HasScript};
 
-use command_ends::{Stop, read_stop};
-use htss_defs::OutOfMemory;
-use outside::{Shelf, read_whole};
+use command_ends::{Stop, read_file};
+use outside::Shelf;
 use script_text::{Script, read_script};
 use std::alloc::Global;
 
@@ -26,13 +25,9 @@ pub fn script_of<'a, F: Shelf>(
     ensures goes_on { ShelfGoesOn
         (seen F.told F.absent F.faults shelf.old) (seen F.told F.absent F.faults shelf.new) }
 {
-    let bytes = match read_whole(alloc, shelf, name) {
-        Ok(bytes) => bytes,
-        Err(stop) => return Err(read_stop(stop, name)),
-    };
-    match read_script(alloc, &bytes) {
-        Ok(Ok(script)) => Ok(script),
-        Ok(Err(fault)) => Err(Stop::Script(fault.line)),
-        Err(OutOfMemory) => Err(Stop::Memory),
+    let bytes = read_file(alloc, name, shelf)?;
+    match read_script(alloc, &bytes)? {
+        Ok(script) => Ok(script),
+        Err(fault) => Err(Stop::Script(fault.line)),
     }
 }

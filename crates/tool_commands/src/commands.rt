@@ -13,11 +13,11 @@ use crate::find_taker::FindTaker;
 use crate::generate::{make, summary_of};
 use crate::list::read_list;
 use audit_command::audit;
-use command_ends::{Stop, read_stop, refuse, write_answer};
+use command_ends::{Stop, read_file, refuse, write_answer};
 use command_words::Command;
 use hit_report::push_query_refused;
-use htss_defs::{OutOfMemory, Query};
-use outside::{Shelf, Sink, read_whole};
+use htss_defs::Query;
+use outside::{Shelf, Sink};
 use query_mol::{QueryRefusal, read_query};
 use std::alloc::Global;
 
@@ -96,10 +96,7 @@ fn find_hits<'a, F: Shelf>(
 {
     let mut taker = FindTaker::new(alloc, asked, budget);
     read_list(alloc, sdf, shelf, &mut taker)?;
-    match taker.text() {
-        Ok(text) => Ok(text),
-        Err(OutOfMemory) => Err(Stop::Memory),
-    }
+    Ok(taker.text()?)
 }
 
 // The text of `check`.
@@ -114,10 +111,7 @@ fn check<'a, F: Shelf>(alloc: Global, sdf: &'a str, shelf: &mut F) -> Result<Vec
 {
     let mut taker = CheckTaker::new(alloc);
     read_list(alloc, sdf, shelf, &mut taker)?;
-    match taker.text() {
-        Ok(text) => Ok(text),
-        Err(OutOfMemory) => Err(Stop::Memory),
-    }
+    Ok(taker.text()?)
 }
 
 // The text of `codes`.
@@ -130,14 +124,8 @@ fn codes<'a, F: Shelf>(alloc: Global, mol: &'a str, shelf: &mut F) -> Result<Vec
     ensures goes_on { ShelfGoesOn
         (seen F.told F.absent F.faults shelf.old) (seen F.told F.absent F.faults shelf.new) }
 {
-    let molfile = match read_whole(alloc, shelf, mol) {
-        Ok(molfile) => molfile,
-        Err(stop) => return Err(read_stop(stop, mol)),
-    };
-    match codes_text(alloc, &molfile) {
-        Ok(text) => Ok(text),
-        Err(OutOfMemory) => Err(Stop::Memory),
-    }
+    let molfile = read_file(alloc, mol, shelf)?;
+    Ok(codes_text(alloc, &molfile)?)
 }
 
 // The line of a query that is refused.
@@ -146,10 +134,8 @@ fn refused_text<'a>(alloc: Global, refusal: QueryRefusal) -> Result<Vec<u8>, Sto
     ensures memory { IfErr result (λ stop. stop ≡ Stop.Memory) }
 {
     let mut text = Vec::new(alloc);
-    match push_query_refused(&mut text, refusal.line, refusal.code) {
-        Ok(()) => Ok(text),
-        Err(OutOfMemory) => Err(Stop::Memory),
-    }
+    push_query_refused(&mut text, refusal.line, refusal.code)?;
+    Ok(text)
 }
 
 // The query of the file with this name, or where it is refused.
@@ -166,12 +152,6 @@ fn read_asked<'a, F: Shelf>(
     ensures goes_on { ShelfGoesOn
         (seen F.told F.absent F.faults shelf.old) (seen F.told F.absent F.faults shelf.new) }
 {
-    let bytes = match read_whole(alloc, shelf, name) {
-        Ok(bytes) => bytes,
-        Err(stop) => return Err(read_stop(stop, name)),
-    };
-    match read_query(alloc, &bytes) {
-        Ok(outcome) => Ok(outcome),
-        Err(OutOfMemory) => Err(Stop::Memory),
-    }
+    let bytes = read_file(alloc, name, shelf)?;
+    Ok(read_query(alloc, &bytes)?)
 }

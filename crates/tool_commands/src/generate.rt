@@ -42,10 +42,7 @@ pub fn summary_of<'a>(alloc: Global, count: u32, seed: u64) -> Result<Vec<u8>, S
     ensures text { IfOk result (λ text. IsSummary count seed text.items) }
     ensures memory { IfErr result (λ stop. stop ≡ Stop.Memory) }
 {
-    match summary(alloc, count, seed) {
-        Ok(text) => Ok(text),
-        Err(OutOfMemory) => Err(Stop::Memory),
-    }
+    Ok(summary(alloc, count, seed)?)
 }
 
 // The line on the made file.

@@ -33,9 +33,7 @@ pub fn read_list<'a, F: Shelf, T: Taker>(
     ensures goes_on { ShelfGoesOn
         (seen F.told F.absent F.faults shelf.old) (seen F.told F.absent F.faults shelf.new) }
 {
-    let Ok(mut reader) = RecordReader::new(alloc) else {
-        return Err(Stop::Memory);
-    };
+    let mut reader = RecordReader::new(alloc)?;
     let mut piece = [0; PIECE_SIZE];
     let mut offset = 0;
     loop {
@@ -44,17 +42,12 @@ pub fn read_list<'a, F: Shelf, T: Taker>(
             Ok(count) => count,
             Err(stop) => return Err(read_stop(stop, name)),
         };
-        match take_piece(&mut reader, &piece[..count], taker) {
-            Ok(()) => {}
-            Err(OutOfMemory) => return Err(Stop::Memory),
-        }
+        take_piece(&mut reader, &piece[..count], taker)?;
         offset += count;
     }
     reader.finish();
-    match drain(&mut reader, taker) {
-        Ok(()) => Ok(()),
-        Err(OutOfMemory) => Err(Stop::Memory),
-    }
+    drain(&mut reader, taker)?;
+    Ok(())
 }
 
 /// Feeds a piece, and hands on the records that are whole then.

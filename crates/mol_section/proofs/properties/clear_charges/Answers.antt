@@ -7,5 +7,5 @@ pub loop-i-preserved : goal.loop-i-preserved
 loop-i-preserved c = record {
   cleared = clear_more c.loop-i.atoms c.args.atoms.now c.loop-i.i _ (omega arith) (omega arith) c.loop-i.invariant.cleared c.loop-i.invariant.left c.with_charge.ensures;
   left = clear_left c.loop-i.atoms c.args.atoms.now c.loop-i.i _ c.loop-i.invariant.left;
-  valid = charged c.loop-i.atoms c.loop-i.i (pos 0) _ (omega arith) (search rules) (search rules) c.with_charge.ensures c.loop-i.invariant.valid;
+  valid = λ least all. charged least c.loop-i.atoms c.loop-i.i (pos 0) _ (omega arith) (search rules) (search rules) c.with_charge.ensures (c.loop-i.invariant.valid least all);
 }

@@ -14,7 +14,7 @@ returns-in_default-clause-read c = sym (ap (option_map (fold put_charge c.args.a
 pub loop-init : goal.loop-init
 loop-init c = record {
   read = ap (option_map (fold put_charge c.args.atoms.now)) (starts listed_charge put_charge (length c.args.atoms.now) c.in-Some.count _ _ c.in-Some.ensures);
-  valid = c.requires.valid;
+  valid = λ least all. all;
 }
 
 pub returns-in_default-charge_at-clause-read : goal.returns-in_default-charge_at-clause-read
@@ -28,5 +28,5 @@ loop-preserved c =
     c.with_charge.ensures ∙ ap (λ (z : ℤ). record old { charge = z }) (passed c.in-Some-charge_at.entry.charge range.0 range.1) in
     record {
       read = rw is (goes_on listed_charge put_charge c.loop.atoms _ c.in-Some.count c.loop.counter _ _ c.in-Some-charge_at.entry.place c.in-Some-charge_at.entry.charge _ c.loop-test.true c.in-Some-charge_at.ensures.entry c.loop.invariant.read);
-      valid = charged c.loop.atoms _ c.in-Some-charge_at.entry.charge c.with_charge.result (omega (arith, c.in-Some-charge_at.ensures.place)) range.0 range.1 is c.loop.invariant.valid;
+      valid = λ least all. charged least c.loop.atoms _ c.in-Some-charge_at.entry.charge c.with_charge.result (omega (arith, c.in-Some-charge_at.ensures.place)) range.0 range.1 is (c.loop.invariant.valid least all);
     }

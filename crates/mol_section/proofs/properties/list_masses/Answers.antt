@@ -13,7 +13,7 @@ returns-in_default-clause-read c = sym (ap (option_map (fold put_mass c.args.ato
 pub loop-init : goal.loop-init
 loop-init c = record {
   read = ap (option_map (fold put_mass c.args.atoms.now)) (starts listed_mass put_mass (length c.args.atoms.now) c.in-Some.count _ _ c.in-Some.ensures);
-  valid = c.requires.valid;
+  valid = λ least all. all;
 }
 
 pub returns-in_default-mass_at-clause-read : goal.returns-in_default-mass_at-clause-read
@@ -22,5 +22,5 @@ returns-in_default-mass_at-clause-read c = ends listed_mass put_mass c.loop.atom
 pub loop-preserved : goal.loop-preserved
 loop-preserved c = record {
   read = rw c.with_mass.ensures (goes_on listed_mass put_mass c.loop.atoms _ c.in-Some.count c.loop.counter _ _ c.in-Some-mass_at.entry.place c.in-Some-mass_at.entry.mass _ c.loop-test.true c.in-Some-mass_at.ensures.entry c.loop.invariant.read);
-  valid = weighed c.loop.atoms _ c.in-Some-mass_at.entry.mass _ (omega (arith, c.in-Some-mass_at.ensures.place)) c.in-Some-mass_at.ensures.mass c.with_mass.ensures c.loop.invariant.valid;
+  valid = λ least all. weighed least c.loop.atoms _ c.in-Some-mass_at.entry.mass _ (omega (arith, c.in-Some-mass_at.ensures.place)) c.in-Some-mass_at.ensures.mass c.with_mass.ensures (c.loop.invariant.valid least all);
 }

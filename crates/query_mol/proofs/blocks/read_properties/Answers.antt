@@ -3,7 +3,7 @@ use Rattle.std.specs.Prelude.{Option, is_some}
 use Rattle.std.specs.List.{list_all}
 use Rattle.htss_defs.specs.declared.mol.Atom.{Atom}
 use Rattle.htss_defs.specs.declared.query.AtomTest.{AtomTest}
-use Rattle.htss_defs.specs.Molecule.{IsAtom}
+use Rattle.mol_section.specs.AtomLines.{IsAtomFrom}
 use Rattle.query_mol.specs.declared.properties.QueryStep.TheVariants.{End, Refused, Next}
 use Rattle.query_mol.specs.Tests.{IsQueryStep}
 use Rattle.query_mol.proofs.Told.{written}
@@ -12,9 +12,6 @@ use Rattle.query_mol.proofs.blocks.read_properties.Goals as goal
 
 pub take_line-requires-clause-few : goal.take_line-requires-clause-few
 take_line-requires-clause-few c = omega (arith, ap length c.deref_mut.ensures.value, c.loop-taken.invariant.at.all_atoms)
-
-pub take_line-requires-clause-valid : goal.take_line-requires-clause-valid
-take_line-requires-clause-valid c = subst (All IsAtom) (sym c.deref_mut.ensures.value) c.loop-taken.invariant.at.draft.valid_atoms
 
 pub take_line-requires-clause-same : goal.take_line-requires-clause-same
 take_line-requires-clause-same c =
@@ -35,7 +32,7 @@ loop-taken-preserved c =
     let back = written c.take_line.new.atoms c.loop-taken.atoms.items c.deref_mut.result.now c.loop-taken.atoms.len c.deref_mut.ensures.value c.take_line.auto.atoms (sym c.loop-taken.atoms.ok.0) in
     let back2 = written c.take_line.new.tests c.loop-taken.tests.items c.deref_mut-in-loop-taken.result.now c.loop-taken.tests.len c.deref_mut-in-loop-taken.ensures.value c.take_line.auto.tests (sym c.loop-taken.tests.ok.0) in
     record {
-      at = rw (back, back2) (AtQueryProperties-line _ _ _ _ c.args.bonded.draft.sizes _ c.loop-taken.passing _ _ _ _ _ _ _ _ c.in-Ok.ensures.line c.in-Ok.ensures.fits s.0 s.1 s.2 s.3 c.in-Next.ensures.valid c.loop-taken.invariant.at);
+      at = rw (back, back2) (AtQueryProperties-line _ _ _ _ c.args.bonded.draft.sizes _ c.loop-taken.passing _ _ _ _ _ _ _ _ c.in-Ok.ensures.line c.in-Ok.ensures.fits s.0 s.1 s.2 s.3 (c.in-Next.ensures.valid (subst (All (IsAtomFrom 0)) (sym c.deref_mut.ensures.value) c.loop-taken.invariant.at.draft.valid_atoms)) c.loop-taken.invariant.at);
       shorter = omega (arith, c.in-Ok.ensures.shorter, c.loop-taken.invariant.shorter);
     }
 

@@ -27,3 +27,18 @@ returns-else-not-take_new_list-clause-step c =
     let s = c.in-Next.ensures.step in
     let t = taken _ _ c.args.passing c.args.line.now c.args.tests.now _ (next_is _ _ _ _ _ _ _ c.if-passing.false s.2 ∙ c.if-next.false) c.requires.same s.1 c.take_new_list.ensures.passes c.if-not-take_new_list.false in
     (s.0, t.0, s.2, t.1 ∙ sym (c.take_new_list.ensures.tests c.if-not-take_new_list.false))
+
+pub returns-in-Refused-clause-valid : goal.returns-in-Refused-clause-valid
+returns-in-Refused-clause-valid c = c.take_line.ensures.valid 0
+
+pub returns-then-passing-clause-valid : goal.returns-then-passing-clause-valid
+returns-then-passing-clause-valid c = c.take_line.ensures.valid 0
+
+pub returns-then-next-clause-valid : goal.returns-then-next-clause-valid
+returns-then-next-clause-valid c = c.take_line.ensures.valid 0
+
+pub returns-then-not-take_new_list-clause-valid : goal.returns-then-not-take_new_list-clause-valid
+returns-then-not-take_new_list-clause-valid c = c.take_line.ensures.valid 0
+
+pub returns-else-not-take_new_list-clause-valid : goal.returns-else-not-take_new_list-clause-valid
+returns-else-not-take_new_list-clause-valid c = c.take_line.ensures.valid 0
