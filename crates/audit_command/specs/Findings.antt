@@ -8,7 +8,8 @@ use Rattle.outside.specs.Files.{File}
 use Rattle.command_ends.specs.AuditText.{DiffersAt, IsAuditText, IsFirstAtFault, IsReportText, audit_line, searches_of}
 
 -- the bytes are a report of its own log with so many events, and the script has so many searches
-pub record IsHeld (groups : List Group) (files : List (ℕ × List ℕ)) (bytes : List ℕ) (events searches : ℕ) : Type 0 where
+pub record IsHeld (groups : List Group) (files : List (ℕ × List ℕ)) (bytes : List ℕ)
+    (events searches : ℕ) : Type 0 where
   pub of : Report
   pub is : IsReportText groups files bytes of
   pub events_is : events ≡ length of.events

@@ -19,9 +19,10 @@ use script_files::{read_all_files, script_of};
 use script_text::Script;
 use std::alloc::Global;
 
-/// Holds the report of this name against the script and the script's files, and answers the status: 0 where it is a report of its own log,
-/// 1 where it differs, 3 where the script is at fault, 4 where a read failed, 5 where a write failed, 6 where memory ran out, 7 where a file
-/// is absent, 8 where it is too large. All files are read before the report is looked at.
+/// Holds the report of this name against the script and the script's files, and answers the status: 0 where it is a
+/// report of its own log, 1 where it differs, 3 where the script is at fault, 4 where a read failed, 5 where a write
+/// failed, 6 where memory ran out, 7 where a file is absent, 8 where it is too large. All files are read before the
+/// report is looked at.
 pub fn audit<F: Shelf, K: Sink>(
     alloc: Global,
     script: &str,

@@ -27,8 +27,8 @@ use Rattle.board_core.specs.Holds.{Holds}
 abbrev pub words_from : List ℕ → ℕ → ℕ → ℕ
 words_from ws place i = slice_index ws (place + i)
 
--- what contracts see of it: the shape, the events of all fronts in order, the states of the pages in order (0 of a free one), their
--- words in order, sixteen each, and the accounts that were gathered
+-- what contracts see of it: the shape, the events of all fronts in order, the states of the pages in order (0 of a free
+-- one), their words in order, sixteen each, and the accounts that were gathered
 pub record Closing : Type 0 where
   pub shape : Shape
   pub history : List Event
@@ -67,14 +67,17 @@ begun_in accounts = sum_of insertions_of accounts
 
 -- that no page is left was answered only where the shape has few pages for the insertions begun
 abbrev pub AreFewPages : Shape → List Account → Type 0
-AreFewPages k accounts = Each (λ a. Each (λ n. n.entry ≡ NoPage → k.pages ≤ pages_for (begun_in accounts) k.loaders) a.entries) accounts
+AreFewPages k accounts = Each (λ a. Each
+    (λ n. n.entry ≡ NoPage → k.pages ≤ pages_for (begun_in accounts) k.loaders) a.entries) accounts
 
 -- that a chain is full was answered only where many insertions were begun: seven for each page of a chain
 abbrev pub AreFewChains : Shape → List Account → Type 0
-AreFewChains k accounts = Each (λ a. Each (λ n. (pages : ℕ) → n.entry ≡ ChainFull pages → 7 * k.chain ≤ begun_in accounts) a.entries) accounts
+AreFewChains k accounts = Each (λ a. Each
+    (λ n. (pages : ℕ) → n.entry ≡ ChainFull pages → 7 * k.chain ≤ begun_in accounts) a.entries) accounts
 
--- the history is legal, fits the log and is by its loaders, and each account is true: of the history, of the words that are left of
--- its region, of the states of pages, and of the chains of pages. Refusals for want of pages have the insertions that they need
+-- the history is legal, fits the log and is by its loaders, and each account is true: of the history, of the words that
+-- are left of its region, of the states of pages, and of the chains of pages. Refusals for want of pages have the
+-- insertions that they need
 pub record IsSettled (c : Closing) : Type 0 where
   pub legal : IsLegal c.history
   pub fits : length c.history ≤ c.shape.log
@@ -86,9 +89,11 @@ pub record IsSettled (c : Closing) : Type 0 where
   pub few : HasAllLoaders c → AreFewPages c.shape c.accounts
   pub full : HasAllLoaders c → AreFewChains c.shape c.accounts
 
--- the history is shown by words such as each account has loaded, and the walk of each row of a published record finds it
+-- the history is shown by words such as each account has loaded, and the walk of each row of a published record finds
+-- it
 pub record IsShown (c : Closing) : Type 0 where
   pub words : Parts
   pub shows : history_of c.shape words ≡ c.history
   pub may : Each (MayBe c.shape words) c.accounts
-  pub rows : (n : ℕ) → IsOldRow c.shape words.regions words.log.slots words.log.front n → IsFound (pages_in c.pages) (codes_in c.shape words.regions n) n
+  pub rows : (n : ℕ) → IsOldRow c.shape words.regions words.log.slots words.log.front n
+      → IsFound (pages_in c.pages) (codes_in c.shape words.regions n) n

@@ -21,8 +21,8 @@ pub record Place : Type 0 where
   pub table : TableId
   pub shape : Shape
 
--- a caller: its board, the board's shape, what it knows, the own pages that it keeps for later, and the page at which its next look
--- for a page begins
+-- a caller: its board, the board's shape, what it knows, the own pages that it keeps for later, and the page at which
+-- its next look for a page begins
 pub record Seated : Type 0 where
   pub table : TableId
   pub shape : Shape

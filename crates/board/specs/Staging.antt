@@ -1,4 +1,5 @@
--- A record that a loader has staged: a sealed block of its own that no event shows, with all its rows placed (this project's own).
+-- A record that a loader has staged: a sealed block of its own that no event shows, with all its rows placed (this
+-- project's own).
 use Rattle.std.specs.Prelude.{◌≡◌, ◌≢◌, ℕ, ◌+◌, ◌≤◌, List, ◌++◌, length}
 use Rattle.htss_defs.specs.declared.shape.Shape.{Shape}
 use Rattle.htss_defs.specs.Molecule.{Molecule}

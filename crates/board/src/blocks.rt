@@ -52,7 +52,8 @@ pub fn load_mark(board: &Board, caller: &mut Caller, block: u64) -> u64
     shared.load::<LoadMark>(&mut caller.seat, at)
 }
 
-/// Loads the first mark of a block: 0, or the number of the event that publishes it. A code of an atom of the block was loaded.
+/// Loads the first mark of a block: 0, or the number of the event that publishes it. A code of an atom of the block was
+/// loaded.
 pub fn load_shown(board: &Board, caller: &mut Caller, block: u64) -> u64
     requires fits { IsOf board.now caller.old }
     requires known { KnowsRow caller.old.account block }
@@ -93,7 +94,8 @@ fn load_code_of<C: Coded>(
     requires code { code < 5 }
     requires row { C.loaded_row ≡ record { block = block; atom = atom } }
     requires which { C.loaded_code ≡ code }
-    ensures after { caller.new ≡ with_account caller.old (after_code caller.old.account (record { block = block; atom = atom }) code result) }
+    ensures after { caller.new ≡ with_account caller.old
+        (after_code caller.old.account (record { block = block; atom = atom }) code result) }
     ensures may { MayBeSome board.now.shape caller.new.account }
 {
     let shared = &board.table.shared;
@@ -115,7 +117,8 @@ pub fn load_code(
     requires place { block + block_size head ≤ total_of board.now.shape }
     requires atom { (0 < atom) × (atom ≤ atoms_in head) }
     requires code { code < 5 }
-    ensures after { caller.new ≡ with_account caller.old (after_code caller.old.account (record { block = block; atom = atom }) code result) }
+    ensures after { caller.new ≡ with_account caller.old
+        (after_code caller.old.account (record { block = block; atom = atom }) code result) }
     ensures may { MayBeSome board.now.shape caller.new.account }
 {
     load_code_of::<Brand>(board, caller, block, head, atom, code)

@@ -21,7 +21,8 @@ use std::alloc::Global;
 use std::marker::Model;
 use std::snapshot::Snapshot;
 
-/// A board that was closed. Contracts see its shape, the history, the states of its pages, and the accounts of its callers.
+/// A board that was closed. Contracts see its shape, the history, the states of its pages, and the accounts of its
+/// callers.
 pub struct Final {
     closed: Closed<(), Global>,
     shape: Shape,
@@ -39,7 +40,9 @@ impl Model for Final {
 
     ghost view = { λ f. closing f.shape (slots_items f.closed.words) f.last.value.me.0 };
 
-    ghost invariant = { λ f. IsFull f.closed.words × (slots_len f.closed.words ≡ total_of f.shape) × (slots_len f.closed.slots ≡ 0) × IsShape f.shape × Ends f.shape (slots_items f.closed.words) f.last.value.me.0 };
+    ghost invariant = { λ f. IsFull f.closed.words × (slots_len f.closed.words ≡ total_of f.shape)
+        × (slots_len f.closed.slots ≡ 0) × IsShape f.shape
+        × Ends f.shape (slots_items f.closed.words) f.last.value.me.0 };
 }
 
 // The account of the other caller is kept.
@@ -84,7 +87,8 @@ pub fn gather(board: Board, mut callers: Vec<Caller>) -> Final
 }
 
 impl Final {
-    /// The history is legal and fits the log, and each account is true. The history is shown by words such as each account has loaded.
+    /// The history is legal and fits the log, and each account is true. The history is shown by words such as each
+    /// account has loaded.
     pub fn is_settled(&self)
         ensures settled { IsSettled self.now }
         ensures shown { IsShown self.now }
@@ -112,7 +116,8 @@ impl Final {
         self.shape
     }
 
-    /// The state of a page, by its number from 1: 0 of a free one, 1 of a busy one, else one more than the stamp of a retired one.
+    /// The state of a page, by its number from 1: 0 of a free one, 1 of a busy one, else one more than the stamp of a
+    /// retired one.
     pub fn page_state(&self, page: u32) -> u64
         requires { IsPage self.now.shape page }
         ensures { result ≡ state_in self.now.states page }
@@ -179,9 +184,11 @@ fn block_at(
     requires full { IsFull closed.now.words }
     requires place { place < 2 ^ 40 }
     requires within { place < slots_len closed.now.words }
-    requires whole { place + block_size (words_from (slots_items closed.now.words) place 0) ≤ slots_len closed.now.words }
+    requires whole { place + block_size (words_from (slots_items closed.now.words) place 0)
+        ≤ slots_len closed.now.words }
     ensures { IfOk result (λ words. words.items
-        ≡ first_of (words_from (slots_items closed.now.words) place) (block_size (words_from (slots_items closed.now.words) place 0))) }
+        ≡ first_of (words_from (slots_items closed.now.words) place)
+        (block_size (words_from (slots_items closed.now.words) place 0))) }
 {
     let size = words_in(closed.word(place));
     let mut words = Vec::with_capacity(alloc, size)?;

@@ -13,8 +13,8 @@ use crate::{Board, Caller};
 /// The epoch past which none comes.
 pub const LAST_EPOCH: u64 = 1 << 62;
 
-/// Loads the epoch, which is no earlier than any that the caller loaded before, or that it knows to have come. A scan of the
-/// announcements begins, and each page that the caller has unlinked and not stamped has this stamp.
+/// Loads the epoch, which is no earlier than any that the caller loaded before, or that it knows to have come. A scan
+/// of the announcements begins, and each page that the caller has unlinked and not stamped has this stamp.
 pub fn load_epoch(board: &Board, caller: &mut Caller) -> u64
     requires { IsOf board.now caller.old }
     ensures after { caller.new ≡ with_account caller.old (after_epoch caller.old.account result) }
@@ -26,8 +26,8 @@ pub fn load_epoch(board: &Board, caller: &mut Caller) -> u64
     board.table.shared.load::<LoadEpoch>(&mut caller.seat, 2)
 }
 
-/// Exchanges an epoch that was loaded for the next. Whether it was still the epoch or not, the next has then come, so nothing is
-/// answered.
+/// Exchanges an epoch that was loaded for the next. Whether it was still the epoch or not, the next has then come, so
+/// nothing is answered.
 pub fn advance_epoch(board: &Board, caller: &mut Caller, epoch: u64)
     requires fits { IsOf board.now caller.old }
     requires may { MayAdvance caller.old.account epoch }

@@ -40,9 +40,13 @@ fn exchange_leaf_of<X: Replaces>(
     requires leaf { (visited caller.old.account.tree.reached leaf_number).page ≡ leaf }
     requires small { index < 7 }
     requires free { Each (λ n. ¬ (IsAmong caller.old.stock n)) numbers.now }
-    requires is { X.exchange ≡ record { inner = number; index = index; code = code; leaf = leaf; numbers = numbers.now; first = first } }
-    ensures won { result ≡ leaf → caller.new ≡ with_account caller.old (after_link (after_split caller.old.account numbers.now leaf) number index code first false) }
-    ensures lost { result ≢ leaf → caller.new ≡ with_account caller.old (after_link caller.old.account number index code result false) }
+    requires is { X.exchange
+        ≡ record { inner = number; index = index; code = code; leaf = leaf; numbers = numbers.now; first = first } }
+    ensures won { result ≡ leaf
+        → caller.new ≡ with_account caller.old
+        (after_link (after_split caller.old.account numbers.now leaf) number index code first false) }
+    ensures lost { result ≢ leaf
+        → caller.new ≡ with_account caller.old (after_link caller.old.account number index code result false) }
     ensures page { IsPage board.now.shape result }
 {
     let at = page_place(board.shape, page, 3 + 2 * index);
@@ -50,9 +54,9 @@ fn exchange_leaf_of<X: Replaces>(
     shared.compare_exchange::<ExchangeLeaf<X>>(&mut caller.seat, at, leaf as u64, first as u64)
 }
 
-/// Exchanges the link to a full leaf that was reached for the first of own pages that have the leaf's rows. The answer is the word
-/// that it found. Where that is the leaf, the pages are in the tree, the leaf is unlinked and has no stamp yet, and the first page is
-/// reached. Else another caller was faster, and the inner page that it put there is reached.
+/// Exchanges the link to a full leaf that was reached for the first of own pages that have the leaf's rows. The answer
+/// is the word that it found. Where that is the leaf, the pages are in the tree, the leaf is unlinked and has no stamp
+/// yet, and the first page is reached. Else another caller was faster, and the inner page that it put there is reached.
 pub fn exchange_leaf(
     board: &Board,
     caller: &mut Caller,
@@ -71,8 +75,11 @@ pub fn exchange_leaf(
     requires leaf { (visited caller.old.account.tree.reached leaf_number).page ≡ leaf }
     requires small { index < 7 }
     requires free { Each (λ n. ¬ (IsAmong caller.old.stock n)) numbers.now }
-    ensures won { result ≡ leaf → caller.new ≡ with_account caller.old (after_link (after_split caller.old.account numbers.now leaf) number index code first false) }
-    ensures lost { result ≢ leaf → caller.new ≡ with_account caller.old (after_link caller.old.account number index code result false) }
+    ensures won { result ≡ leaf
+        → caller.new ≡ with_account caller.old
+        (after_link (after_split caller.old.account numbers.now leaf) number index code first false) }
+    ensures lost { result ≢ leaf
+        → caller.new ≡ with_account caller.old (after_link caller.old.account number index code result false) }
     ensures page { IsPage board.now.shape result }
 {
     exchange_leaf_of::<Brand>(

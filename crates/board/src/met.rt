@@ -92,7 +92,8 @@ fn load_met_head_of<E: Met>(
     shared.load::<LoadMetHead<E>>(&mut caller.seat, at)
 }
 
-/// Loads the first word of the block that an entry names. The entry was read in a leaf. The block has the atom that it names.
+/// Loads the first word of the block that an entry names. The entry was read in a leaf. The block has the atom that it
+/// names.
 pub fn load_met_head(board: &Board, caller: &mut Caller, number: u64, index: u8, entry: u64) -> u64
     requires fits { IsOf board.now caller.old }
     requires met { HasMet caller.old.account number index entry }
@@ -128,7 +129,8 @@ fn load_met_code_of<E: Met>(
     shared.load::<LoadMetCode<E>>(&mut caller.seat, at)
 }
 
-/// Loads a code word of the row that an entry names, which was read in a leaf. The first word of the block was loaded. No code is 0.
+/// Loads a code word of the row that an entry names, which was read in a leaf. The first word of the block was loaded.
+/// No code is 0.
 pub fn load_met_code(
     board: &Board,
     caller: &mut Caller,

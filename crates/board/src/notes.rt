@@ -7,8 +7,8 @@ use crate::plays::{Copied, Heard};
 use crate::{Board, Caller, Note};
 use htss_defs::OutOfMemory;
 
-/// Makes a note of what the caller has seen. A note takes no memory, so there always is one (`made`); the answer is a `Result` so that
-/// callers stand if it comes to take some.
+/// Makes a note of what the caller has seen. A note takes no memory, so there always is one (`made`); the answer is a
+/// `Result` so that callers stand if it comes to take some.
 pub fn note(board: &Board, caller: &mut Caller) -> Result<Note, OutOfMemory>
     requires fits { IsOf board.now caller.old }
     ensures same { caller.new ≡ caller.old }

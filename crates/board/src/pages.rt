@@ -1,5 +1,5 @@
-// The states of pages: 0 of a free one, 1 of one that is busy, s + 1 of one that is retired with the stamp s. Each call is one atomic
-// step, and takes no memory.
+// The states of pages: 0 of a free one, 1 of one that is busy, s + 1 of one that is retired with the stamp s. Each call
+// is one atomic step, and takes no memory.
 ghost use Rattle.std.specs.Prelude.{◌≡◌, ◌≢◌, ◌+◌, ◌<◌, ◌≤◌, ℕ, IsTrue, MatchBool};
 ghost use Rattle.board_core.specs.Sheets.{owns};
 ghost use Rattle.board_core.specs.EpochRule.{last_epoch};
@@ -48,7 +48,8 @@ fn take_state<P: Paged>(board: &Board, caller: &mut Caller, page: u32, found: u6
     requires fits { IsOf board.now caller.old }
     requires may { MayTakePage board.now.shape caller.old.account (number_of caller.old) page found }
     requires is { P.page ≡ page }
-    ensures after { MatchBool result (caller.new ≡ with_account caller.old (after_page caller.old.account page)) (IsLost caller.old caller.new page found) }
+    ensures after { MatchBool result (caller.new ≡ with_account caller.old (after_page caller.old.account page))
+        (IsLost caller.old caller.new page found) }
     ensures fresh { IsTrue result → owns page caller.old.account.pool.own ≡ 0 }
 {
     let at = state_place(board.shape, page);
@@ -60,7 +61,8 @@ fn take_state<P: Paged>(board: &Board, caller: &mut Caller, page: u32, found: u6
 pub fn exchange_state(board: &Board, caller: &mut Caller, page: u32, found: u64) -> bool
     requires fits { IsOf board.now caller.old }
     requires may { MayTakePage board.now.shape caller.old.account (number_of caller.old) page found }
-    ensures after { MatchBool result (caller.new ≡ with_account caller.old (after_page caller.old.account page)) (IsLost caller.old caller.new page found) }
+    ensures after { MatchBool result (caller.new ≡ with_account caller.old (after_page caller.old.account page))
+        (IsLost caller.old caller.new page found) }
     ensures fresh { IsTrue result → owns page caller.old.account.pool.own ≡ 0 }
 {
     take_state::<Brand>(board, caller, page, found)

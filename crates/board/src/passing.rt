@@ -1,4 +1,5 @@
-// A leaf of the last depth is passed: a page with a next page is full. The call is one atomic step, and takes no memory.
+// A leaf of the last depth is passed: a page with a next page is full. The call is one atomic step, and takes no
+// memory.
 ghost use Rattle.std.specs.Prelude.{◌≡◌, ◌≢◌, ◌+◌, ◌<◌};
 ghost use Rattle.board_core.specs.Loaded.{IsPage};
 ghost use Rattle.board_core.specs.Passing.{MayPassLeaf, after_passed};
@@ -24,8 +25,9 @@ fn pass_leaf_of<R: Reaches>(board: &Board, caller: &mut Caller, page: u32, numbe
     board.table.shared.load::<PassLeaf<R>>(&mut caller.seat, at)
 }
 
-/// Loads the next page of a leaf of the last depth, whatever was read of the leaf. Where there is one, the leaf is full, and the next
-/// page was reached. The caller then speaks of no row as old, since it does not know what stands in the leaf.
+/// Loads the next page of a leaf of the last depth, whatever was read of the leaf. Where there is one, the leaf is
+/// full, and the next page was reached. The caller then speaks of no row as old, since it does not know what stands in
+/// the leaf.
 pub fn pass_leaf(board: &Board, caller: &mut Caller, page: u32, number: u64) -> u64
     requires fits { IsOf board.now caller.old }
     requires may { MayPassLeaf board.now.shape caller.old.account number }

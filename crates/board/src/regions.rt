@@ -46,7 +46,8 @@ pub fn next_place(board: &Board, caller: &Caller) -> u64
     requires fits { IsOf board.now caller.now }
     requires loader { IsLoader caller.now }
     ensures value { result ≡ region_of board.now.shape caller.now.account.who + length caller.now.account.room.used }
-    ensures inside { region_of board.now.shape caller.now.account.who + board.now.shape.room ≤ total_of board.now.shape }
+    ensures inside { region_of board.now.shape caller.now.account.who + board.now.shape.room
+        ≤ total_of board.now.shape }
 {
     let at = region_place(board.shape, caller.number);
     at as u64 + caller.used as u64
@@ -70,7 +71,8 @@ fn complete<B: Completed>(board: &Board, caller: &mut Caller, word: u64, place: 
     requires may { MayStore board.now.shape caller.old.account (number_of caller.old) }
     requires seals { MaySeal board.now.shape caller.old.account word (record { place = place; size = size }) }
     requires is { B.block ≡ record { place = place; size = size } }
-    ensures { caller.new ≡ with_account caller.old (after_word caller.old.account word (record { place = place; size = size } ∷ [])) }
+    ensures { caller.new ≡ with_account caller.old
+        (after_word caller.old.account word (record { place = place; size = size } ∷ [])) }
 {
     let at = region_place(board.shape, caller.number) + caller.used as usize;
     let shared = &board.table.shared;
@@ -78,13 +80,14 @@ fn complete<B: Completed>(board: &Board, caller: &mut Caller, word: u64, place: 
     caller.used += 1;
 }
 
-/// Stores the next word of the loader's region, the last of a block at this place of the table and of so many words. Nobody stores
-/// into it any more, its two marks excepted.
+/// Stores the next word of the loader's region, the last of a block at this place of the table and of so many words.
+/// Nobody stores into it any more, its two marks excepted.
 pub fn seal_block(board: &Board, caller: &mut Caller, word: u64, place: u64, size: u64)
     requires fits { IsOf board.now caller.old }
     requires may { MayStore board.now.shape caller.old.account (number_of caller.old) }
     requires seals { MaySeal board.now.shape caller.old.account word (record { place = place; size = size }) }
-    ensures { caller.new ≡ with_account caller.old (after_word caller.old.account word (record { place = place; size = size } ∷ [])) }
+    ensures { caller.new ≡ with_account caller.old
+        (after_word caller.old.account word (record { place = place; size = size } ∷ [])) }
 {
     complete::<Brand>(board, caller, word, place, size);
 }
@@ -117,7 +120,8 @@ fn mark_ended<E: Ended>(board: &Board, caller: &mut Caller, target: u64, block: 
     requires may { MayEnd board.now.shape caller.old.account (record { target = target; block = block }) }
     requires place { IsInTable board.now.shape block }
     requires is { E.ending ≡ record { target = target; block = block } }
-    ensures { caller.new ≡ with_account caller.old (after_ends caller.old.account (record { target = target; block = block })) }
+    ensures { caller.new ≡ with_account caller.old
+        (after_ends caller.old.account (record { target = target; block = block })) }
 {
     let shared = &board.table.shared;
     let next = caller.seen + 1;
@@ -130,7 +134,8 @@ pub fn store_ended(board: &Board, caller: &mut Caller, target: u64, block: u64)
     requires fits { IsOf board.now caller.old }
     requires may { MayEnd board.now.shape caller.old.account (record { target = target; block = block }) }
     requires place { IsInTable board.now.shape block }
-    ensures { caller.new ≡ with_account caller.old (after_ends caller.old.account (record { target = target; block = block })) }
+    ensures { caller.new ≡ with_account caller.old
+        (after_ends caller.old.account (record { target = target; block = block })) }
 {
     mark_ended::<Brand>(board, caller, target, block);
 }

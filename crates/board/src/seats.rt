@@ -27,7 +27,8 @@ impl Model for Board {
 
     ghost view = { λ b. record { table = b.table.shared.table_id; shape = b.shape } };
 
-    ghost invariant = { λ b. (b.table.shared.key ≡ b.shape) × (b.table.shared.table_id.words ≡ total_of b.shape) × IsShape b.shape × (b.table.shared.table_id.slots ≡ 0) };
+    ghost invariant = { λ b. (b.table.shared.key ≡ b.shape) × (b.table.shared.table_id.words ≡ total_of b.shape)
+        × IsShape b.shape × (b.table.shared.table_id.slots ≡ 0) };
 }
 
 impl Board {
@@ -43,8 +44,8 @@ impl Board {
 /// So many own pages a caller keeps for later.
 pub const STOCK: usize = 32;
 
-/// A caller of a board: a loader or a searcher. Contracts see its board, the shape, its account, the own pages that it keeps for
-/// later, and the page at which its next look for a page begins.
+/// A caller of a board: a loader or a searcher. Contracts see its board, the shape, its account, the own pages that it
+/// keeps for later, and the page at which its next look for a page begins.
 #[derive(Drop)]
 pub struct Caller {
     pub(crate) seat: Seat<(), View>,
@@ -65,9 +66,18 @@ impl Model for Caller {
 
     ghost Value = { Seated };
 
-    ghost view = { λ c. record { table = c.seat.table_id; shape = c.seat.me.0.shape; account = c.seat.me.0.me; stock = c.stock.items; next = c.next } };
+    ghost view = { λ c. record {
+      table = c.seat.table_id;
+      shape = c.seat.me.0.shape;
+      account = c.seat.me.0.me;
+      stock = c.stock.items;
+      next = c.next;
+    } };
 
-    ghost invariant = { λ c. (c.seen ≡ c.seat.me.0.me.log.seen) × (c.seat.me.0.me.who ≡ who_of c.loader c.number) × (c.seat.me.0.kept ≡ []) × (c.seat.me.1 ≡ []) × (c.used ≡ length c.seat.me.0.me.room.used) × WhoFits c.seat.me.0.shape c.seat.me.0.me.who × IsStock c.seat.me.0.shape c.seat.me.0.me.pool.own c.stock.items × IsPage c.seat.me.0.shape c.next };
+    ghost invariant = { λ c. (c.seen ≡ c.seat.me.0.me.log.seen) × (c.seat.me.0.me.who ≡ who_of c.loader c.number)
+        × (c.seat.me.0.kept ≡ []) × (c.seat.me.1 ≡ []) × (c.used ≡ length c.seat.me.0.me.room.used)
+        × WhoFits c.seat.me.0.shape c.seat.me.0.me.who × IsStock c.seat.me.0.shape c.seat.me.0.me.pool.own c.stock.items
+        × IsPage c.seat.me.0.shape c.next };
 }
 
 impl Caller {

@@ -5,8 +5,8 @@ use htss_defs::{Mol, Name};
 use std::marker::Model;
 use std::snapshot::Snapshot;
 
-/// A record that a loader has staged: its block is sealed, and no event shows it yet. One that is dropped is shown by no event.
-/// Contracts see where its block begins in the table, its name and its molecule.
+/// A record that a loader has staged: its block is sealed, and no event shows it yet. One that is dropped is shown by
+/// no event. Contracts see where its block begins in the table, its name and its molecule.
 #[derive(Drop)]
 pub struct Staged {
     block: u64,

@@ -1,4 +1,5 @@
-// One call for each kind of step on the words of the log. Each is one atomic step of the caller's seat, and takes no memory.
+// One call for each kind of step on the words of the log. Each is one atomic step of the caller's seat, and takes no
+// memory.
 ghost use Rattle.std.specs.Prelude.{◌≡◌, ◌+◌, ◌-◌, ◌<◌, ◌≤◌, List, [], Some, MatchBool};
 ghost use Rattle.htss_defs.specs.declared.history.Event.{Event};
 ghost use Rattle.htss_defs.specs.declared.history.Event.TheVariants.{Withdraw};
@@ -11,7 +12,8 @@ ghost use Rattle.board_core.specs.LogWord.{target_in, ShowsBlock};
 ghost use Rattle.board_core.specs.Loaded.{IsInTable};
 ghost use Rattle.board_core.specs.Words.{log_at};
 ghost use Rattle.board_core.specs.Steps.{MayTake, MayFree, MayLog, AreTrue};
-ghost use Rattle.board_core.specs.After.{after_take, after_free, after_answer, after_front, after_shown, after_logged, after_event};
+ghost use Rattle.board_core.specs.After.{after_take, after_free, after_answer, after_front, after_shown, after_logged};
+ghost use Rattle.board_core.specs.After.{after_event};
 ghost use Rattle.board.specs.Seated.{IsOf, IsLoader, with_account, number_of};
 ghost use Rattle.board_core.specs.Steps.{event_by};
 
@@ -44,7 +46,8 @@ pub fn exchange_lock(board: &Board, caller: &mut Caller) -> bool
     requires loader { IsLoader caller.old }
     requires may { MayTake caller.old.account }
     ensures idle { caller.old.account.log.pending ≡ nothing }
-    ensures after { MatchBool result (caller.new ≡ with_account caller.old (after_take caller.old.account)) (caller.new ≡ caller.old) }
+    ensures after { MatchBool result (caller.new ≡ with_account caller.old (after_take caller.old.account))
+        (caller.new ≡ caller.old) }
 {
     let own = caller.number as u64;
     board
@@ -95,7 +98,8 @@ pub fn load_log_word(board: &Board, caller: &mut Caller, number: u32) -> u64
     requires fits { IsOf board.now caller.old }
     requires number { (0 < number) × (number ≤ caller.old.account.log.seen) }
     requires room { number ≤ board.now.shape.log }
-    ensures after { caller.new ≡ with_account caller.old (after_shown caller.old.account (log_at board.now.shape + (number - 1)) result) }
+    ensures after { caller.new ≡ with_account caller.old
+        (after_shown caller.old.account (log_at board.now.shape + (number - 1)) result) }
     ensures block { ShowsBlock result → IsInTable board.now.shape (target_in result) }
 {
     let at = log_place(board.shape) + (number as usize - 1);
@@ -121,7 +125,8 @@ pub fn advance_front<E: Shown>(board: &Board, caller: &mut Caller)
     requires holding { caller.old.account.log.holding ≡ Fronted }
     requires logged { caller.old.account.log.pending.logged ≡ Some (word_or_0 caller.old.account.log.pending.logged) }
     requires room { caller.old.account.log.seen < board.now.shape.log }
-    requires event { event_by board.now.shape caller.old.account (word_or_0 caller.old.account.log.pending.logged) ≡ E.event }
+    requires event { event_by board.now.shape caller.old.account (word_or_0 caller.old.account.log.pending.logged)
+        ≡ E.event }
     ensures { caller.new ≡ with_account caller.old (after_event caller.old.account E.event) }
 {
     let shared = &board.table.shared;

@@ -20,7 +20,8 @@ impl Caller {
 
     /// An own page that was kept, if there is one: it is kept no more.
     pub fn kept_page(&mut self) -> Option<u32>
-        ensures some { IfSome result (λ page. (self.new ≡ with_stock self.old self.new.stock) × (self.old.stock ≡ self.new.stock ++ page ∷ [])
+        ensures some { IfSome result
+            (λ page. (self.new ≡ with_stock self.old self.new.stock) × (self.old.stock ≡ self.new.stock ++ page ∷ [])
             × IsPage self.old.shape page × HasOwn self.old.account page × ¬ (IsAmong self.new.stock page)) }
         ensures none { IfNone result ((self.new ≡ self.old) × (self.old.stock ≡ [])) }
     {

@@ -32,12 +32,13 @@ impl Sweeps for Brand {
     ghost rows = { [] };
 }
 
-/// Loads the lock's word and does not use it. The account gains the rows that a descent of `S` gave. There was a board that had the
-/// caller, and there is one now.
+/// Loads the lock's word and does not use it. The account gains the rows that a descent of `S` gave. There was a board
+/// that had the caller, and there is one now.
 pub fn note_swept<S: Sweeps>(board: &Board, caller: &mut Caller)
     requires fits { IsOf board.now caller.old }
     requires may { MaySweep board.now.shape caller.old.account S.need S.front S.rows }
-    ensures after { caller.new ≡ with_account caller.old (after_answer caller.old.account (Swept S.need S.front S.rows ∷ [])) }
+    ensures after { caller.new ≡ with_account caller.old
+        (after_answer caller.old.account (Swept S.need S.front S.rows ∷ [])) }
     ensures before { SomeBoard board.now.shape caller.old.account }
     ensures board { SomeBoard board.now.shape caller.new.account }
 {

@@ -4,9 +4,12 @@ ghost use Rattle.board_core.specs.ClassTree.{slot_at, header_of};
 ghost use Rattle.board_core.specs.KnownPages.{place_of};
 ghost use Rattle.board_core.specs.Loaded.{IsPage, IsVisit};
 ghost use Rattle.board_core.specs.Boards.{SomeBoard};
-ghost use Rattle.board_core.specs.Steps.{MayStoreOwn, MayLoadSlot, MayLoadLink, MayLoadMore, Claim, CodeOf, MayClaim, after_claim, MayLinkLeaf, MayClaimEntry, MayClaimCode, MayLinkMoreLeaf, MayLinkInner, MayLink};
+ghost use Rattle.board_core.specs.Steps.{MayStoreOwn, MayLoadSlot, MayLoadLink, MayLoadMore, Claim, CodeOf, MayClaim};
+ghost use Rattle.board_core.specs.Steps.{after_claim, MayLinkLeaf, MayClaimEntry, MayClaimCode, MayLinkMoreLeaf};
+ghost use Rattle.board_core.specs.Steps.{MayLinkInner, MayLink};
 ghost use Rattle.board_core.specs.CountRule.{most_linked};
-ghost use Rattle.board_core.specs.After.{visited, after_own, after_walk, after_slot, after_link, after_more, after_linked, after_next, after_entry};
+ghost use Rattle.board_core.specs.After.{visited, after_own, after_walk, after_slot, after_link, after_more};
+ghost use Rattle.board_core.specs.After.{after_linked, after_next, after_entry};
 ghost use Rattle.board_core.specs.Sheets.{owns};
 ghost use Rattle.board_core.specs.MarkRule.{IsAmong};
 ghost use Rattle.board_core.specs.Rows.{entry_word, code_of, words_of, HasRow};
@@ -29,7 +32,8 @@ use crate::{Board, Caller};
 use board_core::Row;
 use std::marker::Brand;
 
-// Which page that was reached a step is at, by its number, and which of its links it loads. The call that makes the step picks them.
+// Which page that was reached a step is at, by its number, and which of its links it loads. The call that makes the
+// step picks them.
 pub(crate) trait Reaches {
     ghost number: { ℕ };
 
@@ -89,7 +93,8 @@ pub fn store_own_word(board: &Board, caller: &mut Caller, page: u32, place: u8, 
     store_own_of::<Brand>(board, caller, page, place, word);
 }
 
-/// Begins a walk at the root: loads its header, and sets aside what was reached. The events that were seen at the pin stay.
+/// Begins a walk at the root: loads its header, and sets aside what was reached. The events that were seen at the pin
+/// stay.
 pub fn begin_walk(board: &Board, caller: &mut Caller)
     requires fits { IsOf board.now caller.old }
     ensures { caller.new ≡ with_account caller.old (after_walk caller.old.account) }
@@ -105,7 +110,8 @@ fn load_header_of<R: Reaches>(board: &Board, caller: &mut Caller, page: u32, num
     requires is { R.number ≡ number }
     ensures same { caller.new ≡ caller.old }
     ensures header { result ≡ header_of (place_of (visited caller.old.account.tree.reached number)) }
-    ensures shallow { (visited caller.old.account.tree.reached number).leaf ≡ false → length (visited caller.old.account.tree.reached number).path < 5 }
+    ensures shallow { (visited caller.old.account.tree.reached number).leaf ≡ false
+        → length (visited caller.old.account.tree.reached number).path < 5 }
 {
     let at = page_place(board.shape, page, 0);
     board
@@ -121,7 +127,8 @@ pub fn load_header(board: &Board, caller: &mut Caller, page: u32, number: u64) -
     requires page { (visited caller.old.account.tree.reached number).page ≡ page }
     ensures same { caller.new ≡ caller.old }
     ensures header { result ≡ header_of (place_of (visited caller.old.account.tree.reached number)) }
-    ensures shallow { (visited caller.old.account.tree.reached number).leaf ≡ false → length (visited caller.old.account.tree.reached number).path < 5 }
+    ensures shallow { (visited caller.old.account.tree.reached number).leaf ≡ false
+        → length (visited caller.old.account.tree.reached number).path < 5 }
 {
     load_header_of::<Brand>(board, caller, page, number)
 }
@@ -136,7 +143,8 @@ fn load_slot_of<R: Reaches>(
     requires fits { IsOf board.now caller.old }
     requires may { MayLoadSlot board.now.shape caller.old.account number }
     requires page { (visited caller.old.account.tree.reached number).page ≡ page }
-    requires place { slot_at (visited caller.old.account.tree.reached number).leaf (length (visited caller.old.account.tree.reached number).slots) ≡ place }
+    requires place { slot_at (visited caller.old.account.tree.reached number).leaf
+        (length (visited caller.old.account.tree.reached number).slots) ≡ place }
     requires is { R.number ≡ number }
     ensures after { caller.new ≡ with_account caller.old (after_slot caller.old.account number result) }
     ensures board { SomeBoard board.now.shape caller.new.account }
@@ -145,13 +153,14 @@ fn load_slot_of<R: Reaches>(
     board.table.shared.load::<LoadSlot<R>>(&mut caller.seat, at)
 }
 
-/// Loads the next code or entry of a page that was reached: the place is that of its word in the page. Then there is a board of which
-/// the rule holds and that has the caller, as after each load of a page word.
+/// Loads the next code or entry of a page that was reached: the place is that of its word in the page. Then there is a
+/// board of which the rule holds and that has the caller, as after each load of a page word.
 pub fn load_slot(board: &Board, caller: &mut Caller, page: u32, number: u64, place: u8) -> u64
     requires fits { IsOf board.now caller.old }
     requires may { MayLoadSlot board.now.shape caller.old.account number }
     requires page { (visited caller.old.account.tree.reached number).page ≡ page }
-    requires place { slot_at (visited caller.old.account.tree.reached number).leaf (length (visited caller.old.account.tree.reached number).slots) ≡ place }
+    requires place { slot_at (visited caller.old.account.tree.reached number).leaf
+        (length (visited caller.old.account.tree.reached number).slots) ≡ place }
     ensures after { caller.new ≡ with_account caller.old (after_slot caller.old.account number result) }
     ensures board { SomeBoard board.now.shape caller.new.account }
 {
@@ -171,7 +180,8 @@ fn load_link_of<R: Reaches>(
     requires page { (visited caller.old.account.tree.reached number).page ≡ page }
     requires small { index < 7 }
     requires is { (R.number ≡ number) × (R.index ≡ index) × (R.code ≡ code) }
-    ensures after { (leaf : Bool) × (caller.new ≡ with_account caller.old (after_link caller.old.account number index code result leaf)) }
+    ensures after { (leaf : Bool)
+        × (caller.new ≡ with_account caller.old (after_link caller.old.account number index code result leaf)) }
     ensures page { result ≢ 0 → IsPage board.now.shape result }
     ensures board { SomeBoard board.now.shape caller.new.account }
 {
@@ -179,7 +189,8 @@ fn load_link_of<R: Reaches>(
     board.table.shared.load::<LoadLink<R>>(&mut caller.seat, at)
 }
 
-/// Loads the link of a code that was loaded. It leads to a leaf or to an inner page, which is held from now on if it is a leaf.
+/// Loads the link of a code that was loaded. It leads to a leaf or to an inner page, which is held from now on if it is
+/// a leaf.
 pub fn load_link(
     board: &Board,
     caller: &mut Caller,
@@ -192,7 +203,8 @@ pub fn load_link(
     requires may { MayLoadLink board.now.shape caller.old.account number index code }
     requires page { (visited caller.old.account.tree.reached number).page ≡ page }
     requires small { index < 7 }
-    ensures after { (leaf : Bool) × (caller.new ≡ with_account caller.old (after_link caller.old.account number index code result leaf)) }
+    ensures after { (leaf : Bool)
+        × (caller.new ≡ with_account caller.old (after_link caller.old.account number index code result leaf)) }
     ensures page { result ≢ 0 → IsPage board.now.shape result }
     ensures board { SomeBoard board.now.shape caller.new.account }
 {
@@ -240,7 +252,8 @@ fn claim_of<C: Claims>(
 ) -> u64
     requires fits { IsOf board.now caller.old }
     requires may { MayClaim board.now.shape caller.old.account page place word C.claim }
-    requires stock { (p : ℕ) → IsAmong caller.old.stock p → owns p caller.old.account.pool.own ≤ owns p (after_claim caller.old.account C.claim).pool.own }
+    requires stock { (p : ℕ) → IsAmong caller.old.stock p
+        → owns p caller.old.account.pool.own ≤ owns p (after_claim caller.old.account C.claim).pool.own }
     ensures { HasClaimed board.now.shape C.claim caller.old caller.new result }
 {
     let at = page_place(board.shape, page, place);
@@ -248,8 +261,8 @@ fn claim_of<C: Claims>(
     shared.compare_exchange::<ClaimWord<C>>(&mut caller.seat, at, 0, word)
 }
 
-/// Exchanges a link that is 0 for an own leaf that has a row. The answer is the word that it found: where that is not 0, it was
-/// loaded.
+/// Exchanges a link that is 0 for an own leaf that has a row. The answer is the word that it found: where that is not
+/// 0, it was loaded.
 pub fn link_leaf(
     board: &Board,
     caller: &mut Caller,
@@ -266,7 +279,8 @@ pub fn link_leaf(
     requires small { index < 7 }
     requires free { ¬ (IsAmong caller.old.stock new) }
     ensures won { result ≡ 0 → caller.new ≡ with_account caller.old (after_linked caller.old.account new (row ∷ [])) }
-    ensures lost { result ≢ 0 → (leaf : Bool) × (caller.new ≡ with_account caller.old (after_link caller.old.account number index code result leaf)) }
+    ensures lost { result ≢ 0 → (leaf : Bool)
+        × (caller.new ≡ with_account caller.old (after_link caller.old.account number index code result leaf)) }
     ensures page { result ≢ 0 → IsPage board.now.shape result }
 {
     claim_of::<Brand>(
@@ -282,8 +296,8 @@ pub fn link_leaf(
     )
 }
 
-/// Exchanges the next entry of a leaf for a row, where it is 0. The answer is the word that it found: where that is not 0, it was
-/// loaded.
+/// Exchanges the next entry of a leaf for a row, where it is 0. The answer is the word that it found: where that is not
+/// 0, it was loaded.
 pub fn claim_entry(
     board: &Board,
     caller: &mut Caller,
@@ -304,8 +318,8 @@ pub fn claim_entry(
     claim_of::<Brand>(board, caller, page, place, word, number, 0, 0, row)
 }
 
-/// Exchanges the next code word of an inner page for a code, where it is 0. The answer is the word that it found. What then stands
-/// there was loaded.
+/// Exchanges the next code word of an inner page for a code, where it is 0. The answer is the word that it found. What
+/// then stands there was loaded.
 pub fn claim_code(
     board: &Board,
     caller: &mut Caller,
@@ -318,14 +332,15 @@ pub fn claim_code(
     requires may { MayClaimCode board.now.shape caller.old.account number code }
     requires page { (visited caller.old.account.tree.reached number).page ≡ page }
     requires place { 2 + 2 * length (visited caller.old.account.tree.reached number).slots ≡ place }
-    ensures { caller.new ≡ with_account caller.old (after_slot caller.old.account number (if result == 0 then code else result)) }
+    ensures { caller.new ≡ with_account caller.old
+        (after_slot caller.old.account number (if result == 0 then code else result)) }
 {
     let none = Row { block: 0, atom: 0 };
     claim_of::<Brand>(board, caller, page, place, code, number, 0, code, none)
 }
 
-/// Links an own leaf that has a row as the next page of a full one, where there is none. The answer is the word that it found: where
-/// that is not 0, it was loaded.
+/// Links an own leaf that has a row as the next page of a full one, where there is none. The answer is the word that it
+/// found: where that is not 0, it was loaded.
 pub fn link_next_leaf(
     board: &Board,
     caller: &mut Caller,
@@ -345,8 +360,8 @@ pub fn link_next_leaf(
     claim_of::<Brand>(board, caller, page, 1, new as u64, number, 1, 0, row)
 }
 
-/// Links an own inner page that has a code as the next page of a full one, where there is none. The answer is the word that it
-/// found. What then stands there was loaded, and where it is the own page, its code as well.
+/// Links an own inner page that has a code as the next page of a full one, where there is none. The answer is the word
+/// that it found. What then stands there was loaded, and where it is the own page, its code as well.
 pub fn link_next_inner(
     board: &Board,
     caller: &mut Caller,
@@ -381,8 +396,10 @@ fn load_own_code_of<C: Coded>(
     requires atom { (0 < atom) × (atom ≤ atoms_in head) }
     requires row { C.loaded_row ≡ record { block = block; atom = atom } }
     requires which { C.loaded_code ≡ code }
-    ensures after { caller.new ≡ with_account caller.old (after_code caller.old.account (record { block = block; atom = atom }) code result) }
-    ensures stored { result ≡ code_of (words_of caller.old.shape caller.old.account.who caller.old.account.room.used block) atom code }
+    ensures after { caller.new ≡ with_account caller.old
+        (after_code caller.old.account (record { block = block; atom = atom }) code result) }
+    ensures stored { result
+        ≡ code_of (words_of caller.old.shape caller.old.account.who caller.old.account.room.used block) atom code }
     ensures some { result ≢ 0 }
 {
     let shared = &board.table.shared;
@@ -403,8 +420,10 @@ pub fn load_own_code(
     requires may { MayLoadOwn board.now.shape caller.old.account (record { block = block; atom = atom }) head code }
     requires place { block + block_size head ≤ total_of board.now.shape }
     requires atom { (0 < atom) × (atom ≤ atoms_in head) }
-    ensures after { caller.new ≡ with_account caller.old (after_code caller.old.account (record { block = block; atom = atom }) code result) }
-    ensures stored { result ≡ code_of (words_of caller.old.shape caller.old.account.who caller.old.account.room.used block) atom code }
+    ensures after { caller.new ≡ with_account caller.old
+        (after_code caller.old.account (record { block = block; atom = atom }) code result) }
+    ensures stored { result
+        ≡ code_of (words_of caller.old.shape caller.old.account.who caller.old.account.room.used block) atom code }
     ensures some { result ≢ 0 }
 {
     load_own_code_of::<Brand>(board, caller, block, head, atom, code)
@@ -424,10 +443,14 @@ fn begin_row_of<C: Coded>(
     requires atom { (0 < atom) × (atom ≤ atoms_in head) }
     requires row { C.loaded_row ≡ record { block = block; atom = atom } }
     requires which { C.loaded_code ≡ code }
-    ensures after { caller.new ≡ with_account caller.old (after_begun (after_code caller.old.account (record { block = block; atom = atom }) code result) (record { block = block; atom = atom })) }
-    ensures stored { result ≡ code_of (words_of caller.old.shape caller.old.account.who caller.old.account.room.used block) atom code }
+    ensures after { caller.new ≡ with_account caller.old
+        (after_begun (after_code caller.old.account (record { block = block; atom = atom }) code result)
+        (record { block = block; atom = atom })) }
+    ensures stored { result
+        ≡ code_of (words_of caller.old.shape caller.old.account.who caller.old.account.room.used block) atom code }
     ensures some { result ≢ 0 }
-    ensures alone { HasRow (entry_word (record { block = block; atom = atom })) caller.old.account.tree.placed → In (record { block = block; atom = atom }) caller.old.account.tree.placed }
+    ensures alone { HasRow (entry_word (record { block = block; atom = atom })) caller.old.account.tree.placed
+        → In (record { block = block; atom = atom }) caller.old.account.tree.placed }
     ensures few { MayLink caller.new.account most_linked }
 {
     let shared = &board.table.shared;
@@ -435,8 +458,8 @@ fn begin_row_of<C: Coded>(
     shared.load::<BeginRow<C>>(&mut caller.seat, at)
 }
 
-/// The same, and the row is begun: it may be placed from now on. Of the rows that were placed, its entry word names it alone. For it
-/// as many pages may be linked as for each row.
+/// The same, and the row is begun: it may be placed from now on. Of the rows that were placed, its entry word names it
+/// alone. For it as many pages may be linked as for each row.
 pub fn begin_row(
     board: &Board,
     caller: &mut Caller,
@@ -449,10 +472,14 @@ pub fn begin_row(
     requires may { MayLoadOwn board.now.shape caller.old.account (record { block = block; atom = atom }) head code }
     requires place { block + block_size head ≤ total_of board.now.shape }
     requires atom { (0 < atom) × (atom ≤ atoms_in head) }
-    ensures after { caller.new ≡ with_account caller.old (after_begun (after_code caller.old.account (record { block = block; atom = atom }) code result) (record { block = block; atom = atom })) }
-    ensures stored { result ≡ code_of (words_of caller.old.shape caller.old.account.who caller.old.account.room.used block) atom code }
+    ensures after { caller.new ≡ with_account caller.old
+        (after_begun (after_code caller.old.account (record { block = block; atom = atom }) code result)
+        (record { block = block; atom = atom })) }
+    ensures stored { result
+        ≡ code_of (words_of caller.old.shape caller.old.account.who caller.old.account.room.used block) atom code }
     ensures some { result ≢ 0 }
-    ensures alone { HasRow (entry_word (record { block = block; atom = atom })) caller.old.account.tree.placed → In (record { block = block; atom = atom }) caller.old.account.tree.placed }
+    ensures alone { HasRow (entry_word (record { block = block; atom = atom })) caller.old.account.tree.placed
+        → In (record { block = block; atom = atom }) caller.old.account.tree.placed }
     ensures few { MayLink caller.new.account most_linked }
 {
     begin_row_of::<Brand>(board, caller, block, head, atom, code)

@@ -14,7 +14,18 @@ abbrev pub nothing : Pending
 nothing = record { shows = None; ends = None; logged = None }
 
 abbrev pub no_loads : Loads
-no_loads = record { fronts = []; epochs = []; announcements = []; states = []; lost = []; codes = []; facts = []; heads = []; marks = []; shown = [] }
+no_loads = record {
+  fronts = [];
+  epochs = [];
+  announcements = [];
+  states = [];
+  lost = [];
+  codes = [];
+  facts = [];
+  heads = [];
+  marks = [];
+  shown = [];
+}
 
 -- an account that knows a front and no more
 abbrev pub account : Who → ℕ → Account

@@ -1,5 +1,6 @@
 -- The account after each kind of step.
-use Rattle.std.specs.Prelude.{ℕ, zero, suc, ◌+◌, ◌==◌, Bool, true, false, set, take, get_or, List, [], ◌∷◌, ◌++◌, map, length, max, min, Option, Some, None, if◌then◌else◌}
+use Rattle.std.specs.Prelude.{ℕ, zero, suc, ◌+◌, ◌==◌, Bool, true, false, set, take, get_or, List, [], ◌∷◌, ◌++◌, map}
+use Rattle.std.specs.Prelude.{length, max, min, Option, Some, None, if◌then◌else◌}
 use Rattle.htss_defs.specs.declared.history.Event.{Event}
 use Rattle.board_core.specs.declared.account.Account.{Account}
 use Rattle.board_core.specs.declared.log.Holding.{Holding}
@@ -92,7 +93,10 @@ after_event a e = record a {
 
 -- a log word was loaded
 abbrev pub after_shown : Account → ℕ → ℕ → Account
-after_shown a place word = record a { loads = record a.loads { shown = a.loads.shown ++ record { place = place; word = word; front = a.log.seen } ∷ [] } }
+after_shown a place word = record a {
+  loads = record a.loads
+      { shown = a.loads.shown ++ record { place = place; word = word; front = a.log.seen } ∷ [] };
+}
 
 -- a note was heard
 abbrev pub after_hear : Account → ℕ → Account
@@ -104,20 +108,27 @@ after_made a = record a { who = Opener (made_by a.who + 1) }
 
 -- a word of the own region is stored; it completes these blocks, none or one
 abbrev pub after_word : Account → ℕ → List Sealed → Account
-after_word a word more = record a { room = record a.room { used = a.room.used ++ word ∷ []; sealed = a.room.sealed ++ more } }
+after_word a word more =
+    record a { room = record a.room { used = a.room.used ++ word ∷ []; sealed = a.room.sealed ++ more } }
 
 -- a code word of a row was loaded; the first word of a block; a mark; a name, atom or bond word
 abbrev pub after_code : Account → Row → ℕ → ℕ → Account
-after_code a row code word = record a { loads = record a.loads { codes = a.loads.codes ++ record { row = row; code = code; word = word } ∷ [] } }
+after_code a row code word =
+    record a { loads = record a.loads { codes = a.loads.codes ++ record { row = row; code = code; word = word } ∷ [] } }
 
 abbrev pub after_head : Account → ℕ → ℕ → Account
-after_head a place word = record a { loads = record a.loads { heads = a.loads.heads ++ record { place = place; word = word } ∷ [] } }
+after_head a place word =
+    record a { loads = record a.loads { heads = a.loads.heads ++ record { place = place; word = word } ∷ [] } }
 
 abbrev pub after_mark : Account → ℕ → ℕ → Account
-after_mark a place word = record a { loads = record a.loads { marks = a.loads.marks ++ record { place = place; word = word; front = a.log.seen } ∷ [] } }
+after_mark a place word = record a {
+  loads = record a.loads
+      { marks = a.loads.marks ++ record { place = place; word = word; front = a.log.seen } ∷ [] };
+}
 
 abbrev pub after_fact : Account → ℕ → ℕ → Account
-after_fact a place word = record a { loads = record a.loads { facts = a.loads.facts ++ record { place = place; word = word } ∷ [] } }
+after_fact a place word =
+    record a { loads = record a.loads { facts = a.loads.facts ++ record { place = place; word = word } ∷ [] } }
 
 -- ---- pages and epochs
 
@@ -142,11 +153,25 @@ after_advance a e = record a { pool = record a.pool { risen = e + 1 } }
 
 -- the root, as a pin reaches it
 abbrev pub root : Reached
-root = record { page = 1; from = 0; way = More; path = []; rank = 0; leaf = false; slots = []; zero = false; links = []; more = Unread }
+root = record {
+  page = 1;
+  from = 0;
+  way = More;
+  path = [];
+  rank = 0;
+  leaf = false;
+  slots = [];
+  zero = false;
+  links = [];
+  more = Unread;
+}
 
 -- an epoch is announced, and the announcement is taken back
 abbrev pub after_pin : Account → ℕ → Account
-after_pin a e = record a { pool = record a.pool { announced = e }; tree = record a.tree { front = a.log.seen; reached = root ∷ [] } }
+after_pin a e = record a {
+  pool = record a.pool { announced = e };
+  tree = record a.tree { front = a.log.seen; reached = root ∷ [] };
+}
 
 abbrev pub after_unpin : Account → Account
 after_unpin a = record a { pool = record a.pool { announced = 0 }; tree = record a.tree { reached = [] } }
@@ -163,7 +188,10 @@ after_pass a n = record a {
 
 -- the state of a page was loaded; it was found changed by another
 abbrev pub after_state : Account → ℕ → ℕ → Account
-after_state a p n = record a { loads = record a.loads { states = a.loads.states ++ record { page = p; word = n } ∷ [] } }
+after_state a p n = record a {
+  loads = record a.loads
+      { states = a.loads.states ++ record { page = p; word = n } ∷ [] };
+}
 
 abbrev pub after_lost : Account → ℕ → ℕ → Account
 after_lost a p n = record a { loads = record a.loads { lost = a.loads.lost ++ record { page = p; word = n } ∷ [] } }
@@ -223,22 +251,47 @@ abbrev pub with_link : ℕ → Link → Reached → Reached
 with_link i l x = record x { links = set x.links i l }
 
 abbrev pub led : Reached → ℕ → ℕ → ℕ → Bool → Reached
-led x i c n leaf = record { page = n; from = x.page; way = Branch i; path = x.path ++ c ∷ []; rank = 0; leaf = leaf; slots = []; zero = false; links = []; more = Unread }
+led x i c n leaf = record {
+  page = n;
+  from = x.page;
+  way = Branch i;
+  path = x.path ++ c ∷ [];
+  rank = 0;
+  leaf = leaf;
+  slots = [];
+  zero = false;
+  links = [];
+  more = Unread;
+}
 
 abbrev pub after_link : Account → ℕ → ℕ → ℕ → ℕ → Bool → Account
 after_link a j i c zero leaf = with_reached a (set a.tree.reached j (with_link i Absent (visited a.tree.reached j)))
-after_link a j i c (suc n) leaf = with_reached a (set a.tree.reached j (with_link i (To (suc n)) (visited a.tree.reached j)) ++ led (visited a.tree.reached j) i c (suc n) leaf ∷ [])
+after_link a j i c (suc n) leaf =
+    with_reached a (set a.tree.reached j (with_link i (To (suc n)) (visited a.tree.reached j))
+    ++ led (visited a.tree.reached j) i c (suc n) leaf ∷ [])
 
 -- the next page of a chain was loaded
 abbrev pub with_more : Link → Reached → Reached
 with_more l x = record x { more = l }
 
 abbrev pub next_of : Reached → ℕ → Reached
-next_of x n = record { page = n; from = x.page; way = More; path = x.path; rank = x.rank + 1; leaf = x.leaf; slots = []; zero = false; links = []; more = Unread }
+next_of x n = record {
+  page = n;
+  from = x.page;
+  way = More;
+  path = x.path;
+  rank = x.rank + 1;
+  leaf = x.leaf;
+  slots = [];
+  zero = false;
+  links = [];
+  more = Unread;
+}
 
 abbrev pub after_more : Account → ℕ → ℕ → Account
 after_more a j zero = with_reached a (set a.tree.reached j (with_more Absent (visited a.tree.reached j)))
-after_more a j (suc n) = with_reached a (set a.tree.reached j (with_more (To (suc n)) (visited a.tree.reached j)) ++ next_of (visited a.tree.reached j) (suc n) ∷ [])
+after_more a j (suc n) = with_reached a (set a.tree.reached j (with_more (To (suc n)) (visited a.tree.reached j))
+    ++ next_of (visited a.tree.reached j) (suc n) ∷ [])
 
 -- an own page is in the tree, and a row may be placed with it
 abbrev pub let_go : ℕ → List Own → List Own
@@ -248,7 +301,11 @@ abbrev pub more_linked : ℕ → Counts → Counts
 more_linked n c = record { linked = c.linked + n }
 
 abbrev pub after_linked : Account → ℕ → List Row → Account
-after_linked a n rows = record a { pool = record a.pool { own = let_go n a.pool.own }; counts = more_linked 1 a.counts; tree = record a.tree { placed = a.tree.placed ++ rows } }
+after_linked a n rows = record a {
+  pool = record a.pool { own = let_go n a.pool.own };
+  counts = more_linked 1 a.counts;
+  tree = record a.tree { placed = a.tree.placed ++ rows };
+}
 
 abbrev pub after_inner : Account → ℕ → Account
 after_inner a n = record a { pool = record a.pool { own = let_go n a.pool.own }; counts = more_linked 1 a.counts }
@@ -264,13 +321,23 @@ let_go_all (n ∷ ns) os = let_go n (let_go_all ns os)
 
 abbrev pub after_split : Account → List ℕ → ℕ → Account
 after_split a numbers leaf = record a {
-  pool = record a.pool { own = let_go_all numbers a.pool.own; parted = record { page = leaf; stamp = 0 } ∷ a.pool.parted };
+  pool = record a.pool {
+    own = let_go_all numbers a.pool.own;
+    parted = record { page = leaf; stamp = 0 }
+        ∷ a.pool.parted;
+  };
   counts = more_linked (length numbers) a.counts;
 }
 
 -- an entry is the caller's row
 abbrev pub after_entry : Account → ℕ → Row → Account
-after_entry a j r = record a { tree = record a.tree { reached = set a.tree.reached j (with_slot (entry_word r) (visited a.tree.reached j)); placed = a.tree.placed ++ r ∷ [] } }
+after_entry a j r = record a {
+  tree = record a.tree {
+    reached = set a.tree.reached j (with_slot (entry_word r) (visited a.tree.reached j));
+    placed = a.tree.placed ++ r
+        ∷ [];
+  };
+}
 
 -- a row is begun
 abbrev pub after_begun : Account → Row → Account

@@ -1,7 +1,8 @@
 -- Entries that answer a call, those of the rows that a search has come to set aside (this project's own).
 use Rattle.std.specs.Prelude.{Bool, true, false, List, filter}
 use Rattle.board_core.specs.declared.entry.Entry.{Entry}
-use Rattle.board_core.specs.declared.entry.Entry.TheVariants.{Published, Withdrawn, Answered, Unknown, Gone, LogFull, DataFull, NoPage, ChainFull, Swept}
+use Rattle.board_core.specs.declared.entry.Entry.TheVariants.{Published, Withdrawn, Answered, Unknown, Gone, LogFull}
+use Rattle.board_core.specs.declared.entry.Entry.TheVariants.{DataFull, NoPage, ChainFull, Swept}
 use Rattle.board_core.specs.declared.entry.Noted.{Noted}
 
 abbrev pub is_answer : Entry → Bool

@@ -1,6 +1,6 @@
--- What a block's words show: a name and a marked molecule. A block is given as the function of its words, counted from 0.
--- Word 0 has the numbers of atoms, bonds and bytes; word 1 and word 2 are the marks; then come the name, the atoms, five code
--- words for each atom, and the bonds.
+-- What a block's words show: a name and a marked molecule. A block is given as the function of its words, counted from
+-- 0. Word 0 has the numbers of atoms, bonds and bytes; word 1 and word 2 are the marks; then come the name, the atoms,
+-- five code words for each atom, and the bonds.
 use Rattle.std.specs.Prelude.{ℕ, zero, suc, ◌+◌, ◌*◌, ◌/◌, ◌%◌, ◌^◌, ◌==◌, pos, ◌-ℤ◌, List, [], ◌∷◌, ◌++◌}
 use Rattle.htss_defs.specs.declared.mol.Atom.{Atom}
 use Rattle.htss_defs.specs.declared.mol.Bond.{Bond}
@@ -44,10 +44,19 @@ abbrev pub byte_of : (ℕ → ℕ) → ℕ → ℕ
 byte_of block i = block (3 + i / 8) / 2 ^ (8 * (i % 8)) % 2 ^ 8
 
 abbrev pub atom_of : ℕ → Atom
-atom_of word = record { element = word % 2 ^ 8; charge = pos (word / 2 ^ 8 % 2 ^ 8) -ℤ pos 128; mass = word / 2 ^ 16 % 2 ^ 16 }
+atom_of word = record {
+  element = word % 2 ^ 8;
+  charge = pos (word / 2 ^ 8 % 2 ^ 8) -ℤ pos 128;
+  mass = word / 2 ^ 16 % 2 ^ 16;
+}
 
 abbrev pub bond_of : ℕ → Bond
-bond_of word = record { first = word % 2 ^ 16; second = word / 2 ^ 16 % 2 ^ 16; kind = word / 2 ^ 32 % 2 ^ 8; ring = word / 2 ^ 40 % 2 == 1 }
+bond_of word = record {
+  first = word % 2 ^ 16;
+  second = word / 2 ^ 16 % 2 ^ 16;
+  kind = word / 2 ^ 32 % 2 ^ 8;
+  ring = word / 2 ^ 40 % 2 == 1;
+}
 
 abbrev pub name_in : (ℕ → ℕ) → List ℕ
 name_in block = first_of (byte_of block) (bytes_in (block 0))

@@ -23,7 +23,8 @@ abbrev pub SomeBoard : Shape → Account → Type 0
 SomeBoard k a = (p : Parts) × (vs : List View) × HasBoard k p vs a
 
 -- what a step tells, and that there is such a board before it and after it
-pub record OnBoard (Loads : Step (Unit {0}) → Mine → ℕ → Mine → Type 0) (s : Step (Unit {0})) (m : Mine) (found : ℕ) (n : Mine) : Type 0 where
+pub record OnBoard (Loads : Step (Unit {0}) → Mine → ℕ → Mine → Type 0) (s : Step (Unit {0})) (m : Mine) (found : ℕ)
+    (n : Mine) : Type 0 where
   pub told : Loads s m found n
   pub before : SomeBoard m.0.shape m.0.me
   pub board : SomeBoard m.0.shape n.0.me

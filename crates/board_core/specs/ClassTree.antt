@@ -42,7 +42,8 @@ header_of p = kind_of p.leaf + 4 * length p.path + 32 * p.rank
 -- a word of page q, which stands at P, names a page that stands at R
 abbrev pub Follows : (ℕ → ℕ) → Place → Way → Place → Type 0
 Follows page P More R = (R.path ≡ P.path) × (R.rank ≡ P.rank + 1) × (R.leaf ≡ P.leaf)
-Follows page P (Branch k) R = (P.leaf ≡ false) × (k < 7) × (page (2 + 2 * k) ≢ 0) × (R.path ≡ P.path ++ page (2 + 2 * k) ∷ []) × (R.rank ≡ 0)
+Follows page P (Branch k) R = (P.leaf ≡ false) × (k < 7) × (page (2 + 2 * k) ≢ 0)
+    × (R.path ≡ P.path ++ page (2 + 2 * k) ∷ []) × (R.rank ≡ 0)
 
 abbrev pub IsWay : Place → Way → Type 0
 IsWay P More = Unit {0}
@@ -91,9 +92,11 @@ pub record Tree (w : ℕ → ℕ → ℕ) (s : Sheet) (m : ℕ → Place) (codes
   pub numbered : (p : ℕ) → IsLinked s p → p ≢ 0
   pub pages : (p : ℕ) → IsLinked s p → PageStands (w p) (m p)
   pub named : (p : ℕ) → IsLinked s p → p ≢ 1 → IsNamed w s m p
-  pub leads : (q : ℕ) (way : Way) → IsLinked s q → IsWay (m q) way → w q (at_way way) ≢ 0 → IsFrom s m q way (w q (at_way way))
+  pub leads : (q : ℕ) (way : Way) → IsLinked s q → IsWay (m q) way → w q (at_way way) ≢ 0
+      → IsFrom s m q way (w q (at_way way))
   pub alone : (p q : ℕ) → IsLinked s p → IsLinked s q → (m p).path ≡ (m q).path → (m p).rank ≡ (m q).rank → p ≡ q
-  pub apart : (n p q i j : ℕ) → HasSlot w s m false n p i → HasSlot w s m false n q j → (m p).path ≡ (m q).path → (p ≡ q) × (i ≡ j)
+  pub apart : (n p q i j : ℕ) → HasSlot w s m false n p i → HasSlot w s m false n q j → (m p).path ≡ (m q).path
+      → (p ≡ q) × (i ≡ j)
   pub rows : (n p q i j : ℕ) → HasSlot w s m true n p i → HasSlot w s m true n q j → (p ≡ q) × (i ≡ j)
   pub entries : (n p i : ℕ) → HasSlot w s m true n p i → put n × IsBelow (m p).path (codes n)
   pub placed : (r : ℕ) → put r → Stands w s m r

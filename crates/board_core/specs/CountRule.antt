@@ -1,5 +1,5 @@
--- Page counts (this project's own): a caller has linked few pages for each insertion that it has begun, and has few of its own. The
--- pages that are not free are those, and the root.
+-- Page counts (this project's own): a caller has linked few pages for each insertion that it has begun, and has few of
+-- its own. The pages that are not free are those, and the root.
 use Rattle.std.specs.Prelude.{ℕ, zero, suc, ◌+◌, ◌*◌, ◌≤◌, List, length}
 use Rattle.htss_defs.specs.declared.shape.Shape.{Shape}
 use Rattle.board_core.specs.declared.account.Account.{Account}

@@ -1,5 +1,5 @@
--- Epochs and announcements (this project's own): the epoch is no less than any that was loaded or announced, and what a caller says
--- that it has announced stands there.
+-- Epochs and announcements (this project's own): the epoch is no less than any that was loaded or announced, and what a
+-- caller says that it has announced stands there.
 use Rattle.std.specs.Prelude.{◌≡◌, ℕ, ◌-◌, ◌<◌, ◌≤◌, ◌^◌, List}
 use Rattle.htss_defs.specs.declared.shape.Shape.{Shape}
 use Rattle.board_core.specs.declared.account.Account.{Account}
@@ -13,8 +13,8 @@ use Rattle.board_core.specs.SeatRule.{made}
 abbrev pub last_epoch : ℕ
 last_epoch = 2 ^ 62
 
--- facet: the caller's place among the seats, from 1, or 0 of a seat that is no caller; what it has announced, loaded and scanned, and
--- the leaves that it holds
+-- facet: the caller's place among the seats, from 1, or 0 of a seat that is no caller; what it has announced, loaded
+-- and scanned, and the leaves that it holds
 pub record Claim : Type 0 where
   pub seat : ℕ
   pub announced : ℕ

@@ -1,5 +1,5 @@
--- What was loaded of sealed blocks still stands: words other than the marks as they were, and a mark as far as the front that was
--- seen at its load.
+-- What was loaded of sealed blocks still stands: words other than the marks as they were, and a mark as far as the
+-- front that was seen at its load.
 use Rattle.std.specs.Prelude.{◌≡◌, ◌≢◌, ℕ, ◌+◌, ◌-◌, ◌<◌, ◌≤◌, ◌⊎◌, List}
 use mathlib.Core.Option.{some}
 use lib.ListN.{get_elem?}
@@ -20,7 +20,8 @@ use Rattle.board_core.specs.RoomRule.{IsSealed, IsMark, SomeAccount}
 
 -- the word of the table at this place is a word of a block, and no mark
 abbrev pub IsWordOf : List Sealed → ℕ → Type 0
-IsWordOf blocks at = (j : ℕ) × (s : Sealed) × (get_elem? blocks j ≡ some s) × (i : ℕ) × (i < s.size) × (i ≢ 1) × (i ≢ 2) × (at ≡ s.place + i)
+IsWordOf blocks at = (j : ℕ) × (s : Sealed) × (get_elem? blocks j ≡ some s) × (i : ℕ) × (i < s.size) × (i ≢ 1) × (i ≢ 2)
+    × (at ≡ s.place + i)
 
 abbrev pub word_at : Shape → (ℕ → ℕ) → ℕ → ℕ
 word_at k regions place = regions (place - regions_at k)
@@ -34,13 +35,15 @@ FactStands k regions l = word_at k regions l.place ≡ l.word
 
 -- a code word of a row, whose atom counts from 1
 abbrev pub CodeStands : Shape → (ℕ → ℕ) → CodeLoad → Type 0
-CodeStands k regions l = block_at k regions l.row.block (code_word_at (block_at k regions l.row.block 0) (l.row.atom - 1) l.code) ≡ l.word
+CodeStands k regions l =
+    block_at k regions l.row.block (code_word_at (block_at k regions l.row.block 0) (l.row.atom - 1) l.code) ≡ l.word
 
 -- a mark that was up to the front stands; one that was not is still 0 or past that front
 pub record MarkStands (k : Shape) (regions : ℕ → ℕ) (front : ℕ) (l : ShownLoad) : Type 0 where
   pub seen : l.front ≤ front
   pub told : 0 < l.word → l.word ≤ l.front → word_at k regions l.place ≡ l.word
-  pub later : (l.word ≡ 0) ⊎ (l.front < l.word) → (word_at k regions l.place ≡ 0) ⊎ (l.front < word_at k regions l.place)
+  pub later : (l.word ≡ 0) ⊎ (l.front < l.word) → (word_at k regions l.place ≡ 0)
+      ⊎ (l.front < word_at k regions l.place)
 
 -- what was loaded of blocks stands
 pub record BlocksStand (k : Shape) (regions : ℕ → ℕ) (front : ℕ) (l : Loads) : Type 0 where

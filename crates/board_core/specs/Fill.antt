@@ -3,7 +3,8 @@ use Rattle.std.specs.Prelude.{◌≡◌, ◌≢◌, ℕ, ◌+◌, ◌<◌, ◌�
 use Rattle.board_core.specs.Sheets.{Sheet, IsLinked}
 use Rattle.board_core.specs.ClassTree.{Place, IsBelow}
 
-pub record MayFill (w : ℕ → ℕ → ℕ) (s : Sheet) (m : ℕ → Place) (codes : ℕ → List ℕ) (put : ℕ → Type 0) (p i n : ℕ) : Type 0 where
+pub record MayFill (w : ℕ → ℕ → ℕ) (s : Sheet) (m : ℕ → Place) (codes : ℕ → List ℕ) (put : ℕ → Type 0)
+    (p i n : ℕ) : Type 0 where
   pub linked : IsLinked s p
   pub leaf : (m p).leaf ≡ true
   pub room : i < 14

@@ -14,7 +14,8 @@ pub record IsFresh (page : ℕ → ℕ) (P : Place) (r : ℕ) : Type 0 where
   pub entry : page 2 ≡ r
   pub rest : (i : ℕ) → 0 < i → i ≢ 2 → page i ≡ 0
 
-pub record MayHang (w : ℕ → ℕ → ℕ) (s : Sheet) (m : ℕ → Place) (codes : ℕ → List ℕ) (put : ℕ → Type 0) (q k n r : ℕ) : Type 0 where
+pub record MayHang (w : ℕ → ℕ → ℕ) (s : Sheet) (m : ℕ → Place) (codes : ℕ → List ℕ) (put : ℕ → Type 0)
+    (q k n r : ℕ) : Type 0 where
   pub inner : IsLinked s q
   pub kind : (m q).leaf ≡ false
   pub room : k < 7

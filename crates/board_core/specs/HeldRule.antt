@@ -1,5 +1,5 @@
--- Held leaves (this project's own): only a pinned caller holds any; each is linked, unlinked or retired, and its stamp, if it has one, is
--- no earlier than the caller's announcement.
+-- Held leaves (this project's own): only a pinned caller holds any; each is linked, unlinked or retired, and its stamp,
+-- if it has one, is no earlier than the caller's announcement.
 use Rattle.std.specs.Prelude.{◌≡◌, ℕ, ◌<◌, ◌≤◌, List}
 use Rattle.board_core.specs.declared.account.View.{View}
 use Rattle.board_core.specs.Each.{Each}

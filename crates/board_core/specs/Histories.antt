@@ -15,7 +15,8 @@ block_at k regions place i = regions (place + i - regions_at k)
 
 -- the event that a log word shows, where its block has these words
 abbrev pub shown_by : (ℕ → ℕ) → ℕ → Event
-shown_by block word = if kind_in word == 2 then Withdraw (loader_in word) (target_in word) else Publish (loader_in word) (name_in block) (molecule_in block)
+shown_by block word = if kind_in word == 2 then Withdraw (loader_in word) (target_in word) else Publish (loader_in word)
+    (name_in block) (molecule_in block)
 
 abbrev pub event_of : Shape → (ℕ → ℕ) → ℕ → Event
 event_of k regions word = shown_by (block_at k regions (target_in word)) word

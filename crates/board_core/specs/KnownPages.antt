@@ -35,7 +35,8 @@ pub record IsMate (rs : List Reached) (on : List ℕ) (leaf : Bool) (y : Reached
 
 -- the page before this one in its chain was read whole
 abbrev pub HasEarlier : List Reached → Reached → Type 0
-HasEarlier rs x = 0 < x.rank → (y : Reached) × IsMate rs x.path x.leaf y × (y.rank + 1 ≡ x.rank) × (page_room x.leaf ≤ length y.slots)
+HasEarlier rs x = 0 < x.rank → (y : Reached) × IsMate rs x.path x.leaf y × (y.rank + 1 ≡ x.rank)
+    × (page_room x.leaf ≤ length y.slots)
 
 -- or x is a leaf, and no row is old: then the page before it may have been passed unread
 abbrev pub IsInChain : (ℕ → Type 0) → List Reached → Reached → Type 0
@@ -55,17 +56,22 @@ abbrev pub EndTells : (ℕ → List ℕ) → List Reached → Bool → Reached �
 EndTells codes rs true x r = IsBelow x.path (codes r) → IsRead rs x.path true r
 EndTells codes rs false x r = (c : ℕ) (rest : List ℕ) → codes r ≡ x.path ++ c ∷ rest → IsRead rs x.path false c
 
--- at the path of a leaf that was reached as the first of its chain a first page is linked: the leaf, or an inner page in its place
+-- at the path of a leaf that was reached as the first of its chain a first page is linked: the leaf, or an inner page
+-- in its place
 abbrev pub IsTurned : Sheet → (ℕ → Place) → Reached → Type 0
-IsTurned s m x = x.rank ≡ 0 → (p : ℕ) × IsLinked s p × ((m p).path ≡ x.path) × ((m p).rank ≡ 0) × ((p ≡ x.page) ⊎ ((m p).leaf ≡ false))
+IsTurned s m x = x.rank ≡ 0 → (p : ℕ) × IsLinked s p × ((m p).path ≡ x.path) × ((m p).rank ≡ 0)
+    × ((p ≡ x.page) ⊎ ((m p).leaf ≡ false))
 
-pub record KnowsPages (w : ℕ → ℕ → ℕ) (s : Sheet) (m : ℕ → Place) (codes : ℕ → List ℕ) (old : ℕ → Type 0) (rs : List Reached) : Type 0 where
+pub record KnowsPages (w : ℕ → ℕ → ℕ) (s : Sheet) (m : ℕ → Place) (codes : ℕ → List ℕ) (old : ℕ → Type 0)
+    (rs : List Reached) : Type 0 where
   pub fits : Each (ReachedFits w s m) rs
   pub chain : Each (IsInChain old rs) rs
   pub ends : Each (λ x. IsEnd x.leaf x → (r : ℕ) → old r → EndTells codes rs x.leaf x r) rs
-  pub absent : Each (λ x. (i c : ℕ) → get_elem? x.links i ≡ some Absent → get_elem? x.slots i ≡ some c → (r : ℕ) → old r → IsBelow (x.path ++ c ∷ []) (codes r) → ⊥) rs
+  pub absent : Each (λ x. (i c : ℕ) → get_elem? x.links i ≡ some Absent → get_elem? x.slots i ≡ some c → (r : ℕ) → old r
+      → IsBelow (x.path ++ c ∷ []) (codes r) → ⊥) rs
   pub turned : Each (λ x. x.leaf ≡ true → IsTurned s m x) rs
-  pub gone : Each (λ x. x.leaf ≡ true → (r : ℕ) → old r → IsBelow x.path (codes r) → IsLinked s x.page ⊎ ((i : ℕ) × (i < 14) × (w x.page (2 + i) ≡ r))) rs
+  pub gone : Each (λ x. x.leaf ≡ true → (r : ℕ) → old r → IsBelow x.path (codes r) → IsLinked s x.page
+      ⊎ ((i : ℕ) × (i < 14) × (w x.page (2 + i) ≡ r))) rs
 
 -- the entries of a held leaf that left the tree differ, are placed, and have the leaf's path
 pub record AreKept (page : ℕ → ℕ) (codes : ℕ → List ℕ) (put : ℕ → Type 0) (path : List ℕ) : Type 0 where

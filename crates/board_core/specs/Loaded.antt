@@ -71,7 +71,8 @@ pub record IsInTable (k : Shape) (block : ℕ) : Type 0 where
   pub from : regions_at k ≤ block
   pub until : block + 3 ≤ total_of k
 
--- a word of a block was loaded: a name, atom or bond word by its place in the block, a code word by its atom, from 1, and its code
+-- a word of a block was loaded: a name, atom or bond word by its place in the block, a code word by its atom, from 1,
+-- and its code
 pub record HasFact (a : Account) (block i word : ℕ) : Type 0 where
   pub load : WordLoad
   pub index : ℕ
@@ -107,7 +108,8 @@ pub record Grows (a b : Account) : Type 0 where
   pub codes : (j : ℕ) (x : CodeLoad) → get_elem? a.loads.codes j ≡ some x → get_elem? b.loads.codes j ≡ some x
   pub fronts : (j x : ℕ) → get_elem? a.loads.fronts j ≡ some x → get_elem? b.loads.fronts j ≡ some x
   pub epochs : (j x : ℕ) → get_elem? a.loads.epochs j ≡ some x → get_elem? b.loads.epochs j ≡ some x
-  pub announcements : (j x : ℕ) → get_elem? a.loads.announcements j ≡ some x → get_elem? b.loads.announcements j ≡ some x
+  pub announcements : (j x : ℕ) → get_elem? a.loads.announcements j ≡ some x
+      → get_elem? b.loads.announcements j ≡ some x
   pub states : (j : ℕ) (x : StateLoad) → get_elem? a.loads.states j ≡ some x → get_elem? b.loads.states j ≡ some x
   pub lost : (j : ℕ) (x : StateLoad) → get_elem? a.loads.lost j ≡ some x → get_elem? b.loads.lost j ≡ some x
   pub entries : (j : ℕ) (x : Noted) → get_elem? a.entries j ≡ some x → get_elem? b.entries j ≡ some x

@@ -1,5 +1,5 @@
--- The fields of a log word. Bits 0 to 39 are the place of a block or the number withdrawn, bits 40 to 47 the loader, bits 48 to 55
--- the kind: 1 of a publication, 2 of a withdrawal.
+-- The fields of a log word. Bits 0 to 39 are the place of a block or the number withdrawn, bits 40 to 47 the loader,
+-- bits 48 to 55 the kind: 1 of a publication, 2 of a withdrawal.
 use Rattle.std.specs.Prelude.{◌≡◌, ℕ, ◌+◌, ◌*◌, ◌/◌, ◌%◌, ◌^◌}
 
 abbrev pub log_word : ℕ → ℕ → ℕ → ℕ

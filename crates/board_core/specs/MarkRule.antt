@@ -1,5 +1,6 @@
--- The two marks of a block: the first is the number of the event that publishes it, the last the number of the event that withdraws
--- this publication. Each is stored one step before its event, as the front + 1, while the event is pending.
+-- The two marks of a block: the first is the number of the event that publishes it, the last the number of the event
+-- that withdraws this publication. Each is stored one step before its event, as the front + 1, while the event is
+-- pending.
 use Rattle.std.specs.Prelude.{◌≡◌, ℕ, ◌+◌, ◌-◌, ◌<◌, ◌≤◌, List, Some, None}
 use mathlib.Core.Option.{some}
 use lib.ListN.{get_elem?}
@@ -46,9 +47,11 @@ is_ended_by block a = (e : Ending) × (a.log.pending.ends ≡ Some e) × (e.bloc
 -- what is pending is one event, and its mark stands ahead of the front
 pub record PendingFits (k : Shape) (regions : ℕ → ℕ) (front : ℕ) (slots : ℕ → ℕ) (p : Pending) : Type 0 where
   pub shows : (block : ℕ) → p.shows ≡ Some block → (p.ends ≡ None) × (block_at k regions block shown_at ≡ front + 1)
-  pub ends : (e : Ending) → p.ends ≡ Some e → ShowsAt front slots e.block e.target × (block_at k regions e.block ended_at ≡ front + 1)
+  pub ends : (e : Ending) → p.ends ≡ Some e → ShowsAt front slots e.block e.target
+      × (block_at k regions e.block ended_at ≡ front + 1)
   pub publication : (word : ℕ) → p.logged ≡ Some word → ShowsBlock word → p.shows ≡ Some (target_in word)
-  pub withdrawal : (word : ℕ) → p.logged ≡ Some word → EndsNumber word → (e : Ending) × (p.ends ≡ Some e) × (e.target ≡ target_in word)
+  pub withdrawal : (word : ℕ) → p.logged ≡ Some word → EndsNumber word → (e : Ending) × (p.ends ≡ Some e)
+      × (e.target ≡ target_in word)
 
 -- the place of a block is among these
 abbrev pub IsAmong : List ℕ → ℕ → Type 0
@@ -59,9 +62,12 @@ abbrev pub AreListed : RoomAccount → Type 0
 AreListed r = (place : ℕ) → IsAmong r.published place → IsSealed r.sealed place
 
 -- the sealed blocks of one account: their marks, and which of them are published
-pub record MarksFit (k : Shape) (regions : ℕ → ℕ) (front : ℕ) (slots : ℕ → ℕ) (vs : List View) (published : List ℕ) (s : Sealed) : Type 0 where
-  pub first : MarkFits front (ShowsAt front slots s.place) (SomeAccount (is_shown_by s.place) vs) (block_at k regions s.place shown_at)
-  pub last : MarkFits front (EndsAt front slots s.place) (SomeAccount (is_ended_by s.place) vs) (block_at k regions s.place ended_at)
+pub record MarksFit (k : Shape) (regions : ℕ → ℕ) (front : ℕ) (slots : ℕ → ℕ) (vs : List View) (published : List ℕ)
+    (s : Sealed) : Type 0 where
+  pub first : MarkFits front (ShowsAt front slots s.place) (SomeAccount (is_shown_by s.place) vs)
+      (block_at k regions s.place shown_at)
+  pub last : MarkFits front (EndsAt front slots s.place) (SomeAccount (is_ended_by s.place) vs)
+      (block_at k regions s.place ended_at)
   pub noted : (number : ℕ) → ShowsAt front slots s.place number → IsAmong published s.place
 
 pub record MarkRule (k : Shape) (regions : ℕ → ℕ) (front : ℕ) (slots : ℕ → ℕ) (vs : List View) : Type 0 where

@@ -1,5 +1,5 @@
--- Page status (this project's own): a page is free, one caller's own, linked, unlinked by one caller, or retired. No stamp is past the
--- epoch.
+-- Page status (this project's own): a page is free, one caller's own, linked, unlinked by one caller, or retired. No
+-- stamp is past the epoch.
 use Rattle.std.specs.Prelude.{◌≡◌, ℕ, ◌+◌, ◌<◌, ◌≤◌}
 use Rattle.board_core.specs.Sheets.{Sheet, stamp_of}
 

@@ -1,4 +1,5 @@
--- A leaf of the last depth that names a next page is full, so a caller may go on behind it without reading its entries (this project's own).
+-- A leaf of the last depth that names a next page is full, so a caller may go on behind it without reading its entries
+-- (this project's own).
 use Rattle.std.specs.Prelude.{◌≡◌, ◌≢◌, ℕ, zero, suc, ◌+◌, ◌<◌, ◌≤◌, true, [], ◌∷◌, ◌++◌, length}
 use Rattle.atomic_table.specs.Table.{Step}
 use Rattle.htss_defs.specs.declared.shape.Shape.{Shape}
@@ -15,10 +16,14 @@ pub record MayPassLeaf (k : Shape) (a : Account) (j : ℕ) : Type 0 where
   pub leaf : (visited a.tree.reached j).leaf ≡ true
   pub deep : chained ≤ length (visited a.tree.reached j).path
 
--- where there is one, it was reached. What stands in the leaf is not known, so from now on the caller speaks of no row as old
+-- where there is one, it was reached. What stands in the leaf is not known, so from now on the caller speaks of no row
+-- as old
 abbrev pub after_passed : Account → ℕ → ℕ → Account
 after_passed a j zero = a
-after_passed a j (suc n) = record a { tree = record a.tree { front = 0; reached = a.tree.reached ++ next_of (visited a.tree.reached j) (suc n) ∷ [] } }
+after_passed a j (suc n) = record a {
+  tree = record a.tree
+      { front = 0; reached = a.tree.reached ++ next_of (visited a.tree.reached j) (suc n) ∷ [] };
+}
 
 -- the next page, of a rank that is in the shape
 pub record PassesLeaf (j : ℕ) (s : Step (Unit {0})) (m : Mine) (found : ℕ) (n : Mine) : Type 0 where

@@ -20,4 +20,5 @@ pub record IsRecord (block : ℕ → ℕ) : Type 0 where
   pub name : IsName (name_in block)
   pub molecule : IsMolecule (molecule_in block)
   pub marked : IsMarked (molecule_in block)
-  pub codes : (atom code : ℕ) → atom < atoms_in (block 0) → code < 5 → block (code_word_at (block 0) atom code) ≡ code_at (molecule_in block) code (atom + 1)
+  pub codes : (atom code : ℕ) → atom < atoms_in (block 0) → code < 5 → block (code_word_at (block 0) atom code)
+      ≡ code_at (molecule_in block) code (atom + 1)

@@ -1,5 +1,5 @@
--- Rooms: what an account says that it has stored in its region stands there, marks excepted; its sealed blocks lie one after the
--- other in it, and each publication shows one.
+-- Rooms: what an account says that it has stored in its region stands there, marks excepted; its sealed blocks lie one
+-- after the other in it, and each publication shows one.
 use Rattle.std.specs.Prelude.{◌≡◌, ◌≢◌, ℕ, ◌+◌, ◌-◌, ◌*◌, ◌<◌, ◌≤◌, ◌⊎◌, List, length, slice_index, Some}
 use mathlib.Core.Option.{some}
 use lib.ListN.{get_elem?}
@@ -60,11 +60,13 @@ pub record SealedFits (base : ℕ) (used : List ℕ) (s : Sealed) : Type 0 where
 
 -- blocks lie one after the other
 abbrev pub AreInOrder : List Sealed → Type 0
-AreInOrder blocks = (i j : ℕ) (s t : Sealed) → get_elem? blocks i ≡ some s → get_elem? blocks j ≡ some t → i < j → s.place + s.size ≤ t.place
+AreInOrder blocks = (i j : ℕ) (s t : Sealed) → get_elem? blocks i ≡ some s → get_elem? blocks j ≡ some t → i < j
+    → s.place + s.size ≤ t.place
 
 pub record RoomFits (k : Shape) (regions : ℕ → ℕ) (a : Store) : Type 0 where
   pub within : length a.room.used ≤ room_of k a.who
-  pub stands : (i : ℕ) → i < length a.room.used → ¬ (IsMark a.room.sealed (region_of k a.who + i)) → regions (region_of k a.who + i - regions_at k) ≡ slice_index a.room.used i
+  pub stands : (i : ℕ) → i < length a.room.used → ¬ (IsMark a.room.sealed (region_of k a.who + i))
+      → regions (region_of k a.who + i - regions_at k) ≡ slice_index a.room.used i
   pub sealed : Each (SealedFits (region_of k a.who) a.room.used) a.room.sealed
   pub in_order : AreInOrder a.room.sealed
   pub shows : (block : ℕ) → a.pending.shows ≡ Some block → IsSealed a.room.sealed block
@@ -72,7 +74,8 @@ pub record RoomFits (k : Shape) (regions : ℕ → ℕ) (a : Store) : Type 0 whe
 
 -- some account of some view
 abbrev pub SomeAccount : (Account → Type 0) → List View → Type 0
-SomeAccount F vs = (j : ℕ) × (v : View) × (get_elem? vs j ≡ some v) × (i : ℕ) × (a : Account) × (get_elem? (accounts_in v) i ≡ some a) × F a
+SomeAccount F vs = (j : ℕ) × (v : View) × (get_elem? vs j ≡ some v) × (i : ℕ) × (a : Account)
+    × (get_elem? (accounts_in v) i ≡ some a) × F a
 
 -- the block that a log word shows is a sealed one of its loader
 abbrev pub ShowsSealed : ℕ → Account → Type 0
@@ -84,4 +87,6 @@ pub record RoomRule (k : Shape) (regions : ℕ → ℕ) (front : ℕ) (slots : �
 
 -- words of sealed blocks other than marks are as they were
 abbrev pub SameSealed : Shape → (ℕ → ℕ) → (ℕ → ℕ) → List View → Type 0
-SameSealed k regions other vs = EachAccount (λ a. Each (λ s. (i : ℕ) → i < s.size → i ≢ 1 → i ≢ 2 → other (s.place + i - regions_at k) ≡ regions (s.place + i - regions_at k)) a.room.sealed) vs
+SameSealed k regions other vs = EachAccount (λ a. Each
+    (λ s. (i : ℕ) → i < s.size → i ≢ 1 → i ≢ 2
+    → other (s.place + i - regions_at k) ≡ regions (s.place + i - regions_at k)) a.room.sealed) vs

@@ -1,4 +1,5 @@
--- Rows: an atom of a sealed block, the word by which a leaf names it, its five codes, and which rows were begun and placed (this project's own).
+-- Rows: an atom of a sealed block, the word by which a leaf names it, its five codes, and which rows were begun and
+-- placed (this project's own).
 use Rattle.std.specs.Prelude.{◌≡◌, ℕ, ◌+◌, ◌*◌, ◌-◌, ◌/◌, ◌%◌, ◌^◌, ◌<◌, ◌≤◌, List, [], ◌∷◌, slice_index}
 use Rattle.htss_defs.specs.declared.shape.Shape.{Shape}
 use Rattle.board_core.specs.declared.account.Who.{Who}
@@ -32,7 +33,8 @@ abbrev pub code_of : (ℕ → ℕ) → ℕ → ℕ → ℕ
 code_of block atom code = block (code_word_at (block 0) (atom - 1) code)
 
 abbrev pub codes_of : (ℕ → ℕ) → ℕ → List ℕ
-codes_of block atom = code_of block atom 0 ∷ code_of block atom 1 ∷ code_of block atom 2 ∷ code_of block atom 3 ∷ code_of block atom 4 ∷ []
+codes_of block atom = code_of block atom 0 ∷ code_of block atom 1 ∷ code_of block atom 2 ∷ code_of block atom 3
+    ∷ code_of block atom 4 ∷ []
 
 -- the codes of the row that a word names, by the table
 abbrev pub codes_in : Shape → (ℕ → ℕ) → ℕ → List ℕ

@@ -1,5 +1,5 @@
--- Scans of announcements (this project's own): where a scan has passed a caller, no leaf that the caller holds has a stamp below the
--- least epoch so far.
+-- Scans of announcements (this project's own): where a scan has passed a caller, no leaf that the caller holds has a
+-- stamp below the least epoch so far.
 use Rattle.std.specs.Prelude.{ℕ, ◌<◌, ◌≤◌, List}
 use Rattle.htss_defs.specs.declared.shape.Shape.{Shape}
 use Rattle.board_core.specs.declared.account.View.{View}

@@ -20,7 +20,8 @@ parts p us = sum_of (λ u. where_page p u.page 1) us
 abbrev pub stamps : ℕ → List Parted → ℕ
 stamps p us = sum_of (λ u. where_page p u.page u.stamp) us
 
--- the state word of each page, how many accounts have it as their own, how many as unlinked, and the stamps loaded for it
+-- the state word of each page, how many accounts have it as their own, how many as unlinked, and the stamps loaded for
+-- it
 pub record Sheet : Type 0 where
   pub state : ℕ → ℕ
   pub owned : ℕ → ℕ

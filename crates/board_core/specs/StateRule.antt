@@ -1,4 +1,5 @@
--- Never free again (this project's own): a page whose state was loaded as other than free, or whose exchange was lost, is not free.
+-- Never free again (this project's own): a page whose state was loaded as other than free, or whose exchange was lost,
+-- is not free.
 use Rattle.std.specs.Prelude.{◌≢◌, ℕ, List}
 use Rattle.board_core.specs.declared.account.View.{View}
 use Rattle.board_core.specs.declared.loads.Loads.{Loads}

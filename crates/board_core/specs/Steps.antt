@@ -1,5 +1,7 @@
--- When a caller may take each kind of step, and what the step tells it: of the seat before, the number found, and the seat after.
-use Rattle.std.specs.Prelude.{◌≡◌, ◌≢◌, ◌↔◌, ℕ, ◌<◌, ◌≤◌, ◌^◌, ◌⊎◌, List, [], Some, None, length, ◌++◌, ◌∷◌, ◌+◌, ◌-◌, ◌*◌, Bool, true, false}
+-- When a caller may take each kind of step, and what the step tells it: of the seat before, the number found, and the
+-- seat after.
+use Rattle.std.specs.Prelude.{◌≡◌, ◌≢◌, ◌↔◌, ℕ, ◌<◌, ◌≤◌, ◌^◌, ◌⊎◌, List, [], Some, None, length, ◌++◌, ◌∷◌, ◌+◌, ◌-◌}
+use Rattle.std.specs.Prelude.{◌*◌, Bool, true, false}
 use Rattle.atomic_table.specs.Table.{Me, Step}
 use Rattle.htss_defs.specs.declared.shape.Shape.{Shape}
 use Rattle.htss_defs.specs.declared.history.Event.{Event}
@@ -21,7 +23,8 @@ use Rattle.board_core.specs.declared.room.Sealed.{Sealed}
 use Rattle.board_core.specs.declared.room.Row.{Row}
 use Rattle.board_core.specs.RoomRule.{own_block, region_of, store_of, IsSealed, SealedFits}
 use Rattle.board_core.specs.MarkRule.{IsAmong, AreListed, ShowsAt}
-use Rattle.board_core.specs.Loaded.{HasLoaded, SawMark, IsOpenMark, IsInTable, IsPage, HasEpoch, HasState, HasParted, HasOwn, IsVisit, HasStored, one_word, leaf_place, next_place, IsToPlace, IsToClaim}
+use Rattle.board_core.specs.Loaded.{HasLoaded, SawMark, IsOpenMark, IsInTable, IsPage, HasEpoch, HasState, HasParted}
+use Rattle.board_core.specs.Loaded.{HasOwn, IsVisit, HasStored, one_word, leaf_place, next_place, IsToPlace, IsToClaim}
 use Rattle.board_core.specs.declared.tree.Link.TheVariants.{Unread}
 use Rattle.board_core.specs.ClassTree.{Place, chained, page_room, header_of}
 use Rattle.board_core.specs.Plan.{own_word, IsWhole, MayHaveCodes, Plan}
@@ -36,7 +39,12 @@ use Rattle.board_core.specs.StateRule.{StatesStand}
 use Rattle.board_core.specs.ChainRule.{IsToldChain}
 use Rattle.board_core.specs.EpochRule.{IsPast, last_epoch}
 use Rattle.board_core.specs.LogWord.{publication_word, target_in, withdrawal_word, ShowsBlock}
-use Rattle.board_core.specs.After.{visited, after_begun, after_linked, after_inner, after_split, after_entry, after_own, after_walk, after_slot, after_link, after_more, after_epoch, after_advance, after_pin, after_unpin, after_pass, after_state, after_lost, after_page, after_retire, after_code, after_fact, after_head, after_mark, after_word, noted, after_take, after_free, after_answer, after_front, after_shows, after_ends, after_logged, after_event, after_shown, after_next}
+use Rattle.board_core.specs.After.{visited, after_begun, after_linked, after_inner, after_split, after_entry, after_own}
+use Rattle.board_core.specs.After.{after_walk, after_slot, after_link, after_more, after_epoch, after_advance}
+use Rattle.board_core.specs.After.{after_pin, after_unpin, after_pass, after_state, after_lost, after_page}
+use Rattle.board_core.specs.After.{after_retire, after_code, after_fact, after_head, after_mark, after_word, noted}
+use Rattle.board_core.specs.After.{after_take, after_free, after_answer, after_front, after_shows, after_ends}
+use Rattle.board_core.specs.After.{after_logged, after_event, after_shown, after_next}
 use Rattle.board_core.specs.PublishedRule.{AllPlaced}
 use Rattle.board_core.specs.CountRule.{most_linked, most_own, insertions_of}
 use Rattle.board_core.specs.Swept.{IsTrueSwept}
@@ -63,7 +71,8 @@ pub record MayStore (k : Shape) (a : Account) (loader : ℕ) : Type 0 where
   pub who : a.who ≡ Loader loader
   pub room : length a.room.used < k.room
 
--- with that word a block is complete: it lies past the others, is as long as its first word says, has no mark, and shows a record
+-- with that word a block is complete: it lies past the others, is as long as its first word says, has no mark, and
+-- shows a record
 pub record MaySeal (k : Shape) (a : Account) (word : ℕ) (s : Sealed) : Type 0 where
   pub fits : SealedFits (region_of k a.who) (a.room.used ++ word ∷ []) s
   pub past : Each (λ t. t.place + t.size ≤ s.place) a.room.sealed
@@ -84,8 +93,8 @@ pub record MayPublish (k : Shape) (a : Account) (block : ℕ) : Type 0 where
   pub fresh : ¬ (IsAmong a.room.published block)
   pub placed : AllPlaced k a.who a.room.used a.tree.placed block
 
--- the last mark of a block may be stored: the number's log word was loaded as its publication, and this mark, at the front that is
--- seen, as no event's
+-- the last mark of a block may be stored: the number's log word was loaded as its publication, and this mark, at the
+-- front that is seen, as no event's
 pub record MayEnd (k : Shape) (a : Account) (e : Ending) : Type 0 where
   pub may : MayMark k a
   pub loaded : HasLoaded k a e.target e.block
@@ -95,10 +104,12 @@ pub record MayEnd (k : Shape) (a : Account) (e : Ending) : Type 0 where
 
 -- the word of the publication, or of the withdrawal, whose mark is stored
 abbrev pub IsPublicationOf : Account → ℕ → ℕ → Type 0
-IsPublicationOf a loader word = (block : ℕ) × (a.log.pending.shows ≡ Some block) × (block < 2 ^ 40) × (word ≡ publication_word loader block)
+IsPublicationOf a loader word = (block : ℕ) × (a.log.pending.shows ≡ Some block) × (block < 2 ^ 40)
+    × (word ≡ publication_word loader block)
 
 abbrev pub IsWithdrawalOf : Account → ℕ → ℕ → Type 0
-IsWithdrawalOf a loader word = (e : Ending) × (a.log.pending.ends ≡ Some e) × (e.target < 2 ^ 40) × (word ≡ withdrawal_word loader e.target)
+IsWithdrawalOf a loader word = (e : Ending) × (a.log.pending.ends ≡ Some e) × (e.target < 2 ^ 40)
+    × (word ≡ withdrawal_word loader e.target)
 
 -- the log word may be stored: it is that of the publication, or of the withdrawal, whose mark is stored
 pub record MayLog (k : Shape) (a : Account) (loader word : ℕ) : Type 0 where
@@ -133,8 +144,8 @@ pub record MayPass (k : Shape) (a : Account) (i : ℕ) : Type 0 where
   pub here : a.pool.passed ≡ i
   pub inside : i < k.loaders + k.searchers
 
--- a page whose state was loaded as this word may be taken: it was free, or retired below the least epoch of a scan that has passed all
--- callers
+-- a page whose state was loaded as this word may be taken: it was free, or retired below the least epoch of a scan that
+-- has passed all callers
 pub record MayTakePage (k : Shape) (a : Account) (loader p x : ℕ) : Type 0 where
   pub who : a.who ≡ Loader loader
   pub inside : IsPage k p
@@ -230,8 +241,8 @@ pub record MayLinkInner (k : Shape) (a : Account) (j n c : ℕ) : Type 0 where
   pub inner : (visited a.tree.reached j).leaf ≡ false
   pub claim : IsToClaim k a (visited a.tree.reached j).path c
 
--- the link of a code, behind which a full leaf was reached, may be exchanged for own pages that are to take the leaf's place, whatever
--- codes its rows have
+-- the link of a code, behind which a full leaf was reached, may be exchanged for own pages that are to take the leaf's
+-- place, whatever codes its rows have
 pub record MayExchangeLeaf (k : Shape) (a : Account) (j i c l : ℕ) (numbers : List ℕ) (first : ℕ) : Type 0 where
   pub load : MayLoadLink k a j i c
   pub visit : IsVisit k a l
@@ -243,10 +254,11 @@ pub record MayExchangeLeaf (k : Shape) (a : Account) (j i c l : ℕ) (numbers : 
   pub few : MayLink a (length numbers)
   pub places : ℕ → Place
   pub plan : (codes : ℕ → List ℕ) → MayHaveCodes a (visited a.tree.reached l) codes
-      → Plan (own_word a.pool.own) places codes (IsAmong numbers) a.tree.reached (visited a.tree.reached j) (visited a.tree.reached l) i first
+      → Plan (own_word a.pool.own) places codes (IsAmong numbers) a.tree.reached (visited a.tree.reached j)
+      (visited a.tree.reached l) i first
 
--- which exchange it is: the inner page by its number, the link and its code, the leaf's page, the own pages that go, and the one that
--- takes the leaf's place
+-- which exchange it is: the inner page by its number, the link and its code, the leaf's page, the own pages that go,
+-- and the one that takes the leaf's place
 pub record Exchange : Type 0 where
   pub inner : ℕ
   pub index : ℕ
@@ -259,8 +271,9 @@ pub record Exchange : Type 0 where
 abbrev pub after_exchange : Account → Exchange → Account
 after_exchange a e = after_link (after_split a e.numbers e.leaf) e.inner e.index e.code e.first false
 
--- an exchange of a page word that is 0: a link for a leaf that has a row, an entry for a row, a code word for a code, the next page for
--- a leaf that has a row, and for an inner page that has a code. Pages that were reached go by their numbers
+-- an exchange of a page word that is 0: a link for a leaf that has a row, an entry for a row, a code word for a code,
+-- the next page for a leaf that has a row, and for an inner page that has a code. Pages that were reached go by their
+-- numbers
 pub data Claim : Type 0 where
   LeafBelow : ℕ → ℕ → ℕ → ℕ → Row → Claim
   EntryOf : ℕ → Row → Claim
@@ -275,13 +288,17 @@ pub record IsClaimAt (a : Account) (j at n page place word : ℕ) : Type 0 where
   pub word_is : word ≡ n
 
 abbrev pub MayClaim : Shape → Account → ℕ → ℕ → ℕ → Claim → Type 0
-MayClaim k a page place word (LeafBelow j i c n row) = MayLinkLeaf k a j i c n row × (i < 7) × IsClaimAt a j (3 + 2 * i) n page place word
-MayClaim k a page place word (EntryOf j row) = MayClaimEntry k a j row × IsClaimAt a j (2 + length (visited a.tree.reached j).slots) (entry_word row) page place word
-MayClaim k a page place word (CodeOf j c) = MayClaimCode k a j c × IsClaimAt a j (2 + 2 * length (visited a.tree.reached j).slots) c page place word
+MayClaim k a page place word (LeafBelow j i c n row) = MayLinkLeaf k a j i c n row × (i < 7)
+    × IsClaimAt a j (3 + 2 * i) n page place word
+MayClaim k a page place word (EntryOf j row) = MayClaimEntry k a j row
+    × IsClaimAt a j (2 + length (visited a.tree.reached j).slots) (entry_word row) page place word
+MayClaim k a page place word (CodeOf j c) = MayClaimCode k a j c
+    × IsClaimAt a j (2 + 2 * length (visited a.tree.reached j).slots) c page place word
 MayClaim k a page place word (LeafBehind j n row) = MayLinkMoreLeaf k a j n row × IsClaimAt a j 1 n page place word
 MayClaim k a page place word (InnerBehind j n c) = MayLinkInner k a j n c × IsClaimAt a j 1 n page place word
 
--- the account after an exchange that is won: an inner page that it links, and a code, are known as if they had been loaded
+-- the account after an exchange that is won: an inner page that it links, and a code, are known as if they had been
+-- loaded
 abbrev pub after_claim : Account → Claim → Account
 after_claim a (LeafBelow j i c n row) = after_linked a n (row ∷ [])
 after_claim a (EntryOf j row) = after_entry a j row
@@ -291,10 +308,11 @@ after_claim a (InnerBehind j n c) = after_next a j n c
 
 -- ---- what is known of a board whatever its words are
 
--- what the rule says of the blocks that the events show: each shows a record, and its last mark is the number of the event, if any,
--- that withdraws it
+-- what the rule says of the blocks that the events show: each shows a record, and its last mark is the number of the
+-- event, if any, that withdraws it
 pub record KnownBlocks (k : Shape) (p : Parts) : Type 0 where
-  pub records : (i : ℕ) → i < p.log.front → ShowsBlock (p.log.slots i) → IsRecord (block_at k p.regions (target_in (p.log.slots i)))
+  pub records : (i : ℕ) → i < p.log.front → ShowsBlock (p.log.slots i)
+      → IsRecord (block_at k p.regions (target_in (p.log.slots i)))
   pub marks : (i at : ℕ) → i < p.log.front → ShowsBlock (p.log.slots i) → 0 < at → at ≤ p.log.front
       → (block_at k p.regions (target_in (p.log.slots i)) ended_at ≡ at ↔ Withdraws (history_of k p) at (i + 1))
 
@@ -306,11 +324,13 @@ pub record Known (k : Shape) (p : Parts) : Type 0 where
 
 -- the first mark of a block is the number of the event, if any, that publishes it
 pub record FirstMark (k : Shape) (p : Parts) (block : ℕ) : Type 0 where
-  pub told : (number : ℕ) → 0 < number → number ≤ p.log.front → block_at k p.regions block shown_at ≡ number → ShowsAt p.log.front p.log.slots block number
-  pub stands : (number : ℕ) → ShowsAt p.log.front p.log.slots block number → block_at k p.regions block shown_at ≡ number
+  pub told : (number : ℕ) → 0 < number → number ≤ p.log.front → block_at k p.regions block shown_at ≡ number
+      → ShowsAt p.log.front p.log.slots block number
+  pub stands : (number : ℕ) → ShowsAt p.log.front p.log.slots block number
+      → block_at k p.regions block shown_at ≡ number
 
--- what the words have that the account has seen: what was loaded, the first marks of the blocks of rows of which codes were loaded, and
--- what its descents answered
+-- what the words have that the account has seen: what was loaded, the first marks of the blocks of rows of which codes
+-- were loaded, and what its descents answered
 pub record Agrees (k : Shape) (p : Parts) (a : Account) : Type 0 where
   pub seen : a.log.seen ≤ p.log.front
   pub shown : Each (LoadFits k p.log) a.loads.shown
@@ -355,8 +375,8 @@ pub record LoadsFront (s : Step (Unit {0})) (m : Mine) (found : ℕ) (n : Mine) 
   pub in_log : found ≤ m.0.shape.log
   pub same : m.0.me.log.holding ≡ Fronted → found ≡ m.0.me.log.seen
 
--- what the rule says of an own region: each sealed block begins before the next word and ends there or before, and what is published
--- is sealed, as is the block of each row that is placed
+-- what the rule says of an own region: each sealed block begins before the next word and ends there or before, and what
+-- is published is sealed, as is the block of each row that is placed
 pub record IsKnownRoom (k : Shape) (a : Account) : Type 0 where
   pub before : Each (λ t. t.place < region_of k a.who + length a.room.used) a.room.sealed
   pub within : Each (λ t. t.place + t.size ≤ region_of k a.who + length a.room.used) a.room.sealed
@@ -465,12 +485,13 @@ pub record LoadsMore (j : ℕ) (s : Step (Unit {0})) (m : Mine) (found : ℕ) (n
   pub rank : found ≢ 0 → (visited m.0.me.tree.reached j).rank + 1 < m.0.shape.chain
 
 -- a word that was 0 is the caller's now, or it was another, which was then loaded
-pub record Claims (after : Account) (Loads : Step (Unit {0}) → Mine → ℕ → Mine → Type 0) (s : Step (Unit {0})) (m : Mine) (found : ℕ) (n : Mine) : Type 0 where
+pub record Claims (after : Account) (Loads : Step (Unit {0}) → Mine → ℕ → Mine → Type 0) (s : Step (Unit {0}))
+    (m : Mine) (found : ℕ) (n : Mine) : Type 0 where
   pub won : found ≡ 0 → n ≡ became m after
   pub lost : found ≢ 0 → Loads s m found n
 
--- the leaf stood behind the link: the new pages are in the tree, and the first of them is reached. Else another page did, which is an
--- inner one and was reached
+-- the leaf stood behind the link: the new pages are in the tree, and the first of them is reached. Else another page
+-- did, which is an inner one and was reached
 pub record ExchangesLeaf (e : Exchange) (s : Step (Unit {0})) (m : Mine) (found : ℕ) (n : Mine) : Type 0 where
   pub won : found ≡ e.leaf → n ≡ became m (after_exchange m.0.me e)
   pub lost : found ≢ e.leaf → n ≡ became m (after_link m.0.me e.inner e.index e.code found false)

@@ -12,4 +12,5 @@ use Rattle.board_core.specs.Boards.{HasBoard}
 
 -- it is true of each board that has the caller
 abbrev pub MaySweep : Shape → Account → Need → ℕ → List Row → Type 0
-MaySweep k a need front rows = (p : Parts) (vs : List View) → HasBoard k p vs a → IsSweptOn k p vs (Swept need front rows)
+MaySweep k a need front rows = (p : Parts) (vs : List View) → HasBoard k p vs a
+    → IsSweptOn k p vs (Swept need front rows)

@@ -1,4 +1,5 @@
--- What a descent answers is true: the rows differ and cover the need, and each row of the first events that covers is among them.
+-- What a descent answers is true: the rows differ and cover the need, and each row of the first events that covers is
+-- among them.
 use Rattle.std.specs.Prelude.{◌≡◌, ℕ, ◌≤◌, List}
 use mathlib.Core.Option.{some}
 use lib.ListN.{get_elem?}
@@ -9,7 +10,8 @@ use Rattle.htss_defs.specs.Needs.{Covers}
 use Rattle.board_core.specs.declared.account.View.{View}
 use Rattle.board_core.specs.declared.room.Row.{Row}
 use Rattle.board_core.specs.declared.entry.Entry.{Entry}
-use Rattle.board_core.specs.declared.entry.Entry.TheVariants.{Published, Withdrawn, Answered, Unknown, Gone as Ended, LogFull, DataFull, NoPage, ChainFull, Swept}
+use Rattle.board_core.specs.declared.entry.Entry.TheVariants.{Published, Withdrawn, Answered, Unknown, Gone as Ended}
+use Rattle.board_core.specs.declared.entry.Entry.TheVariants.{LogFull, DataFull, NoPage, ChainFull, Swept}
 use Rattle.board_core.specs.Each.{Each, In}
 use Rattle.board_core.specs.Words.{Parts}
 use Rattle.board_core.specs.Accounts.{EachAccount}
@@ -24,7 +26,8 @@ pub record SweptFits (k : Shape) (p : Parts) (need : Need) (front : ℕ) (rows :
   pub behind : front ≤ p.log.front
   pub differ : (i j : ℕ) (r : Row) → get_elem? rows i ≡ some r → get_elem? rows j ≡ some r → i ≡ j
   pub cover : Each (λ r. Covers need (row_codes k p.regions (entry_word r))) rows
-  pub all : (n : ℕ) → IsOldRow k p.regions p.log.slots front n → Covers need (row_codes k p.regions n) → In (row_named n) rows
+  pub all : (n : ℕ) → IsOldRow k p.regions p.log.slots front n → Covers need (row_codes k p.regions n)
+      → In (row_named n) rows
 
 -- the part of an entry's truth that reads the codes of rows
 abbrev pub IsTrueSwept : Shape → Parts → Entry → Type 0

@@ -6,7 +6,8 @@ use Rattle.htss_defs.specs.declared.history.Event.TheVariants.{Publish, Withdraw
 use Rattle.htss_defs.specs.History.{HasEvent, Withdraws}
 use Rattle.htss_defs.specs.Reply.{Reply as Answer, IsReply, found, over_budget}
 use Rattle.board_core.specs.declared.entry.Entry.{Entry}
-use Rattle.board_core.specs.declared.entry.Entry.TheVariants.{Published, Withdrawn, Answered, Unknown, Gone as Ended, LogFull, DataFull, NoPage, ChainFull, Swept}
+use Rattle.board_core.specs.declared.entry.Entry.TheVariants.{Published, Withdrawn, Answered, Unknown, Gone as Ended}
+use Rattle.board_core.specs.declared.entry.Entry.TheVariants.{LogFull, DataFull, NoPage, ChainFull, Swept}
 use Rattle.board_core.specs.declared.entry.Reply.{Reply}
 use Rattle.board_core.specs.declared.entry.Reply.TheVariants.{Hits, OverBudget}
 use Rattle.board_core.specs.declared.entry.Noted.{Noted}
@@ -23,7 +24,8 @@ reply_of OverBudget = over_budget
 abbrev pub IsTrueLog : Shape → List Event → Entry → Type 0
 IsTrueLog k h (Published number event) = HasEvent h number event
 IsTrueLog k h (Withdrawn number event) = HasEvent h number event
-IsTrueLog k h (Answered query budget front reply) = (front ≤ length h) × IsReply query budget (take front h) (reply_of reply)
+IsTrueLog k h (Answered query budget front reply) = (front ≤ length h)
+    × IsReply query budget (take front h) (reply_of reply)
 IsTrueLog k h (Unknown number front) = (front ≤ length h) × ¬ (IsPublished (take front h) number)
 IsTrueLog k h (Ended number at) = Withdraws h at number
 IsTrueLog k h (LogFull front) = (front ≤ length h) × (front ≡ k.log)

@@ -1,5 +1,7 @@
--- The words of a board by group, as functions of their place in the group. The laws of the steps speak of these alone (this project's own).
-use Rattle.std.specs.Prelude.{ℕ, zero, suc, ◌+◌, ◌*◌, ◌-◌, ◌==◌, nat_lt, List, ◌++◌, ◌∷◌, take, drop, replicate, slice_index, if◌then◌else◌}
+-- The words of a board by group, as functions of their place in the group. The laws of the steps speak of these alone
+-- (this project's own).
+use Rattle.std.specs.Prelude.{ℕ, zero, suc, ◌+◌, ◌*◌, ◌-◌, ◌==◌, nat_lt, List, ◌++◌, ◌∷◌, take, drop, replicate}
+use Rattle.std.specs.Prelude.{slice_index, if◌then◌else◌}
 use Rattle.htss_defs.specs.declared.shape.Shape.{Shape}
 
 -- the front, the lock, and the log's words, counted from 0: event n stands in slot n - 1
@@ -69,7 +71,11 @@ sixteen f (suc p) i = if nat_lt i 16 then f (16 * p + i) else 0
 abbrev pub parts_of : Shape → List ℕ → Parts
 parts_of k ws = record {
   log = record { front = slice_index ws 0; lock = slice_index ws 1; slots = part (log_at k) k.log ws };
-  pool = record { epoch = slice_index ws 2; announced = part 3 (k.loaders + k.searchers) ws; states = from_one (part (states_at k) k.pages ws) };
+  pool = record {
+    epoch = slice_index ws 2;
+    announced = part 3 (k.loaders + k.searchers) ws;
+    states = from_one (part (states_at k) k.pages ws);
+  };
   pages = sixteen (part (pages_at k) (16 * k.pages) ws);
   regions = part (regions_at k) (regions_size k) ws;
 }
@@ -86,4 +92,5 @@ zeros n = replicate n 0
 
 -- the words of a board as it is opened: the epoch is 1, and page 1 is an inner page of depth 0
 abbrev pub opening_words : Shape → List ℕ
-opening_words k = 0 ∷ 0 ∷ 1 ∷ (zeros (k.loaders + k.searchers) ++ (1 ∷ (zeros (k.pages - 1) ++ (2 ∷ zeros (16 * k.pages - 1 + k.log + regions_size k)))))
+opening_words k = 0 ∷ 0 ∷ 1 ∷ (zeros (k.loaders + k.searchers)
+    ++ (1 ∷ (zeros (k.pages - 1) ++ (2 ∷ zeros (16 * k.pages - 1 + k.log + regions_size k)))))

@@ -8,7 +8,8 @@ use crate::tree::{Counts, TreeAccount};
 use htss_defs::Shape;
 use std::collections::LinkedList;
 
-/// Whose an account is. The opener has made so many callers. A note tells a front. A seat that was joined into another is gone.
+/// Whose an account is. The opener has made so many callers. A note tells a front. A seat that was joined into another
+/// is gone.
 pub enum Who {
     Opener(u64),
     Loader(u8),

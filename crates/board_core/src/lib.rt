@@ -1,5 +1,5 @@
-//! The board as plain data: its words, what a caller knows, and the rule that ties them. No value of these types is made when a
-//! program runs.
+//! The board as plain data: its words, what a caller knows, and the rule that ties them. No value of these types is
+//! made when a program runs.
 #![tactic(auto)]
 
 mod account;

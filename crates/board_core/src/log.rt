@@ -1,6 +1,7 @@
 // What a caller knows of the publication log.
 
-/// Whether a caller has the lock, and whether it has loaded the front since: then the front that it has seen is the front.
+/// Whether a caller has the lock, and whether it has loaded the front since: then the front that it has seen is the
+/// front.
 pub enum Holding {
     Away,
     Taken,
@@ -13,8 +14,8 @@ pub struct Ending {
     pub block: u64,
 }
 
-/// What the holder of the lock has stored and not yet shown: the block whose first mark is stored, the block whose last mark is
-/// stored, the log word.
+/// What the holder of the lock has stored and not yet shown: the block whose first mark is stored, the block whose last
+/// mark is stored, the log word.
 pub struct Pending {
     pub shows: Option<u64>,
     pub ends: Option<Ending>,

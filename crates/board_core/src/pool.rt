@@ -13,8 +13,8 @@ pub struct Parted {
     pub stamp: u64,
 }
 
-/// The pool part: the announced epoch (0 while unpinned), an epoch that is known to have come, the scan of announcements (its first
-/// epoch, the least epoch so far, the seats passed), and the pages.
+/// The pool part: the announced epoch (0 while unpinned), an epoch that is known to have come, the scan of
+/// announcements (its first epoch, the least epoch so far, the seats passed), and the pages.
 pub struct PoolAccount {
     pub announced: u64,
     pub risen: u64,

@@ -14,8 +14,8 @@ pub struct Sealed {
     pub size: u64,
 }
 
-/// The regions part: the words stored so far, in order (both marks of a block as 0), the sealed blocks, and those of them that are
-/// published.
+/// The regions part: the words stored so far, in order (both marks of a block as 0), the sealed blocks, and those of
+/// them that are published.
 pub struct RoomAccount {
     pub used: LinkedList<u64>,
     pub sealed: LinkedList<Sealed>,

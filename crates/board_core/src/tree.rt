@@ -31,8 +31,8 @@ pub struct Reached {
     pub more: Link,
 }
 
-/// The tree part: the front seen at the pin (0 once a leaf was passed unread), the pages reached since, the rows begun and those
-/// placed.
+/// The tree part: the front seen at the pin (0 once a leaf was passed unread), the pages reached since, the rows begun
+/// and those placed.
 pub struct TreeAccount {
     pub front: u64,
     pub reached: LinkedList<Reached>,

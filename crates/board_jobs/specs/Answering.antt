@@ -67,8 +67,8 @@ Says k used after (to_record (taken one fate)) = SaysOfFate k used one fate
 Says k used after (to_withdrawal number answer) = SaysOfWithdrawal k after number answer
 Says k used after (to_search answer) = SaysOfSearch k after answer
 
--- the code words that a search has loaded from a to b are pruned, and it tells of as many rows as it loaded; for a query that is refused
--- nothing is loaded. No refusal has the code 0: it stands for a search that memory ran out for
+-- the code words that a search has loaded from a to b are pruned, and it tells of as many rows as it loaded; for a
+-- query that is refused nothing is loaded. No refusal has the code 0: it stands for a search that memory ran out for
 abbrev pub LoadsRows : Account → Account → Answer → Type 0
 LoadsRows a b (to_record answer) = Unit {0}
 LoadsRows a b (to_withdrawal number answer) = Unit {0}
@@ -86,9 +86,9 @@ ReadsRecords k a b (to_search (hits_at asked budget front hits rows records)) =
     ReadsScreened k asked front a b × ReadsAllScreened k asked front a b
 ReadsRecords k a b (to_search (over_at asked budget front)) = ReadsScreened k asked front a b
 
--- one answer: it adds the entries that it prints; its marks are seen afterwards; its own event comes after all that was seen before,
--- and its front is no shorter. Each of its entries has the lengths that the lists of loads had at its end. At most one insertion is
--- begun for each atom of a record
+-- one answer: it adds the entries that it prints; its marks are seen afterwards; its own event comes after all that was
+-- seen before, and its front is no shorter. Each of its entries has the lengths that the lists of loads had at its end.
+-- At most one insertion is begun for each atom of a record
 pub record IsAnswered (k : Shape) (caller : Caller) (a b : Account) (answer : Answer) : Type 0 where
   pub who : b.who ≡ a.who
   pub noted_are : answers_in b.entries ≡ answers_in a.entries ++ noted b.loads (tells caller answer)
@@ -106,4 +106,5 @@ pub record IsAnswered (k : Shape) (caller : Caller) (a b : Account) (answer : An
 -- answers of one caller, one after the other
 abbrev pub AreAnswered : Shape → Caller → Account → Account → List Answer → Type 0
 AreAnswered k caller a b [] = b ≡ a
-AreAnswered k caller a b (answer ∷ answers) = (between : Account) × IsAnswered k caller a between answer × AreAnswered k caller between b answers
+AreAnswered k caller a b (answer ∷ answers) = (between : Account) × IsAnswered k caller a between answer
+    × AreAnswered k caller between b answers

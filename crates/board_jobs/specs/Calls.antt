@@ -12,7 +12,8 @@ use Rattle.report_text.specs.declared.report.LoadLine.TheVariants as line
 use Rattle.report_text.specs.declared.report.WithdrawLine.{WithdrawLine}
 use Rattle.report_text.specs.declared.report.SearchLine.{SearchLine}
 use Rattle.report_text.specs.declared.report.SearchLine.TheVariants.{Hits, OverBudget, Refused}
-use Rattle.report_rules.specs.Answers.{Answer, to_record, to_search, to_withdrawal, Fate, RecordAnswer, taken, SearchAnswer, not_read, hits_at, over_at}
+use Rattle.report_rules.specs.Answers.{Answer, to_record, to_search, to_withdrawal, Fate, RecordAnswer, taken}
+use Rattle.report_rules.specs.Answers.{SearchAnswer, not_read, hits_at, over_at}
 use Rattle.report_rules.specs.Answers.{fate_line, outcome_of, record_lines, search_line}
 use Rattle.report_rules.specs.Dealing.{Caller}
 use Rattle.report_rules.specs.Reports.{IsSearchFor}
@@ -39,7 +40,8 @@ IsOrderOf c (Search file budget) = Unit {0}
 pub record GoesOn (b : Place) (old new : Seated) : Type 0 where
   pub work : IsAtWork b new
   pub who : new.account.who ≡ old.account.who
-  pub answers : (c : Caller) → who_of c ≡ old.account.who → (answers : List Answer) × AreAnswered b.shape c old.account new.account answers
+  pub answers : (c : Caller) → who_of c ≡ old.account.who → (answers : List Answer)
+      × AreAnswered b.shape c old.account new.account answers
 
 -- the caller has given this answer
 abbrev pub Answers : Shape → Account → Account → Answer → Type 0
@@ -58,14 +60,16 @@ pub record IsTaken (k : Shape) (a b : Account) (place : ℕ) (one : NamedMol) (l
   pub answers : Answers k a b (to_record (taken one fate))
 
 -- the records read so far are answered with these lines
-pub record AreLoaded (k : Shape) (a b : Account) (stream : List ℕ) (reader : ReaderState) (lines : List LoadLine) : Type 0 where
+pub record AreLoaded (k : Shape) (a b : Account) (stream : List ℕ) (reader : ReaderState)
+    (lines : List LoadLine) : Type 0 where
   pub records : List RecordAnswer
   pub read : HasRead stream (map outcome_of records) reader
   pub lines_are : lines ≡ record_lines 1 records
   pub who : b.who ≡ a.who
   pub answers : (c : Caller) → who_of c ≡ a.who → AreAnswered k c a b (map to_record records)
 
--- memory ran out: the first records of the stream are answered, as a reader has read them, which was told that it is over or not
+-- memory ran out: the first records of the stream are answered, as a reader has read them, which was told that it is
+-- over or not
 pub record HaveBegun (k : Shape) (a b : Account) (stream : List ℕ) (over : Bool) : Type 0 where
   pub records : List RecordAnswer
   pub reader : ReaderState
@@ -92,8 +96,10 @@ pub record IsWithdrawal (k : Shape) (a b : Account) (number : ℕ) (line : Withd
 
 -- the line tells what a search for the query finds under the budget
 abbrev pub TellsReply : Shape → Account → Account → QueryGraph → ℕ → SearchLine → Type 0
-TellsReply k a b query budget (Hits front hits rows records) = Answers k a b (to_search (hits_at query budget front hits rows records))
-TellsReply k a b query budget (OverBudget front own) = (own ≡ budget) × Answers k a b (to_search (over_at query own front))
+TellsReply k a b query budget (Hits front hits rows records) =
+    Answers k a b (to_search (hits_at query budget front hits rows records))
+TellsReply k a b query budget (OverBudget front own) = (own ≡ budget)
+    × Answers k a b (to_search (over_at query own front))
 TellsReply k a b query budget (Refused line code) = ⊥
 
 -- the search for the query of a file is answered so

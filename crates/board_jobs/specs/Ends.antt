@@ -22,7 +22,8 @@ caller_at k i = if nat_lt i k.loaders then loader (i + 1) else searcher (i + 1 -
 -- each caller went on from its first account to its last, by answers
 pub record HaveGoneOn (k : Shape) (first last : List Account) : Type 0 where
   pub count : length last ≡ length first
-  pub each : (i : ℕ) (a b : Account) → get_elem? first i ≡ some a → get_elem? last i ≡ some b → (answers : List Answer) × AreAnswered k (caller_at k i) a b answers
+  pub each : (i : ℕ) (a b : Account) → get_elem? first i ≡ some a → get_elem? last i ≡ some b → (answers : List Answer)
+      × AreAnswered k (caller_at k i) a b answers
 
 -- the words show a legal history; each account agrees with them, and is true of it; and all callers are there
 pub record IsEnd (k : Shape) (p : Parts) (accounts : List Account) : Type 0 where

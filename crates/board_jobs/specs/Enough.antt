@@ -1,5 +1,5 @@
--- A script whose pool is large enough meets no refusal for want of a page, and one whose chains may be long enough none for a full
--- chain (this project's own).
+-- A script whose pool is large enough meets no refusal for want of a page, and one whose chains may be long enough none
+-- for a full chain (this project's own).
 use Rattle.std.specs.Prelude.{◌≡◌, ℕ, ◌*◌, ◌≤◌, List, All}
 use Rattle.htss_defs.specs.declared.record.NamedMol.{NamedMol}
 use Rattle.htss_defs.specs.declared.shape.Shape.{Shape}
@@ -14,7 +14,8 @@ TellsNoPage line = (one : NamedMol) × (line.answer ≡ to_record (taken one no_
 
 -- a line tells that no page was left only where the pages are few for the atoms of all accepted records of all loads
 abbrev pub ArePagesEnough : Shape → List Line → Type 0
-ArePagesEnough shape lines = All (λ line. TellsNoPage line → shape.pages ≤ pages_for (atoms_loaded lines) shape.loaders) lines
+ArePagesEnough shape lines =
+    All (λ line. TellsNoPage line → shape.pages ≤ pages_for (atoms_loaded lines) shape.loaders) lines
 
 -- the line tells that a chain was full for its record
 abbrev pub TellsChainFull : Line → Type 0

@@ -28,7 +28,8 @@ pub record JobIsDone (k : Shape) (before after : List Account) (one : Done) : Ty
 -- jobs in the order of the script. Callers that work beside each other change different accounts
 abbrev pub AreDone : Shape → List Account → List Account → List Done → Type 0
 AreDone k before after [] = after ≡ before
-AreDone k before after (one ∷ more) = (between : List Account) × JobIsDone k before between one × AreDone k between after more
+AreDone k before after (one ∷ more) = (between : List Account) × JobIsDone k before between one
+    × AreDone k between after more
 
 abbrev pub with_seen : ℕ → Account → Account
 with_seen front a = record a { log = record a.log { seen = front } }
@@ -40,7 +41,8 @@ pub record HaveMet (before after : List Account) (front : ℕ) : Type 0 where
   pub after_is : after ≡ map (with_seen front) before
 
 -- the jobs of a group are done as they are dealt, and the callers have met
-pub record GroupIsDone (k : Shape) (files : List (ℕ × List ℕ)) (budget number : ℕ) (group : Group) (before after : List Account) (front : ℕ) (done : List Done) : Type 0 where
+pub record GroupIsDone (k : Shape) (files : List (ℕ × List ℕ)) (budget number : ℕ) (group : Group)
+    (before after : List Account) (front : ℕ) (done : List Done) : Type 0 where
   pub dealt_are : map (λ one. one.dealt) done ≡ dealt_group k number group
   pub by_files : All (IsByItsFile files budget) done
   pub between : List Account
@@ -48,11 +50,16 @@ pub record GroupIsDone (k : Shape) (files : List (ℕ × List ℕ)) (budget numb
   pub met : HaveMet between after front
 
 -- groups, one after the other, of which the first has this number
-abbrev pub AreGroupsDone : Shape → List (ℕ × List ℕ) → ℕ → ℕ → List Group → List Account → List Account → ℕ → List Done → Type 0
-AreGroupsDone k files budget number [] before after front done = (after ≡ before) × (done ≡ []) × Each (λ a. a.log.seen ≡ front) before
-AreGroupsDone k files budget number (group ∷ groups) before after front done = (middle : List Account) × (met : ℕ) × (first rest : List Done)
-    × GroupIsDone k files budget number group before middle met first × AreGroupsDone k files budget (number + 1) groups middle after front rest × (done ≡ first ++ rest)
+abbrev pub AreGroupsDone : Shape → List (ℕ × List ℕ) → ℕ → ℕ → List Group → List Account → List Account → ℕ → List Done
+    → Type 0
+AreGroupsDone k files budget number [] before after front done = (after ≡ before) × (done ≡ [])
+    × Each (λ a. a.log.seen ≡ front) before
+AreGroupsDone k files budget number (group ∷ groups) before after front done = (middle : List Account) × (met : ℕ)
+    × (first rest : List Done)
+    × GroupIsDone k files budget number group before middle met first
+    × AreGroupsDone k files budget (number + 1) groups middle after front rest × (done ≡ first ++ rest)
 
 -- the accounts of a board's callers as it is opened
 abbrev pub AreNew : Shape → List Account → Type 0
-AreNew k accounts = (length accounts ≡ k.loaders + k.searchers) × ((i : ℕ) (a : Account) → get_elem? accounts i ≡ some a → a ≡ account (caller_after k i) 0)
+AreNew k accounts = (length accounts ≡ k.loaders + k.searchers)
+    × ((i : ℕ) (a : Account) → get_elem? accounts i ≡ some a → a ≡ account (caller_after k i) 0)

@@ -7,7 +7,8 @@ use Rattle.script_text.specs.declared.script.Order.TheVariants.{Load, Withdraw, 
 use Rattle.script_text.specs.FilesByLine.{bytes_at}
 use Rattle.report_text.specs.declared.report.Block.{Block}
 use Rattle.ctfile.specs.Stream.{HasRead, ReaderState}
-use Rattle.report_rules.specs.Answers.{Answer, JobAnswer, RecordAnswer, SearchAnswer, to_record, to_search, answers_of, block_of, outcome_of}
+use Rattle.report_rules.specs.Answers.{Answer, JobAnswer, RecordAnswer, SearchAnswer, to_record, to_search, answers_of}
+use Rattle.report_rules.specs.Answers.{block_of, outcome_of}
 use Rattle.report_rules.specs.Dealing.{Caller, loader, searcher}
 use Rattle.report_rules.specs.Reports.{IsAnswerTo, IsSearchFor, budget_or}
 use Rattle.board_core.specs.declared.account.Account.{Account}
@@ -39,30 +40,36 @@ IsFor (searcher number) (Withdraw target) = ⊥
 IsFor (searcher number) (Search file budget) = Unit {0}
 
 -- the job is answered with this block
-pub record IsJobDone (k : Shape) (files : List (ℕ × List ℕ)) (budget : ℕ) (caller : Caller) (a b : Account) (job : Job) (block : Block) : Type 0 where
+pub record IsJobDone (k : Shape) (files : List (ℕ × List ℕ)) (budget : ℕ) (caller : Caller) (a b : Account) (job : Job)
+    (block : Block) : Type 0 where
   pub answer : JobAnswer
   pub by_file : IsAnswerTo (bytes_at files job.line) budget job.order answer
   pub block_is : block ≡ block_of job.line answer
   pub answered : AreAnswered k caller a b (answers_of answer)
 
--- a reader has read these records from a front of the file, which is all of it where the reader was told that it is over
+-- a reader has read these records from a front of the file, which is all of it where the reader was told that it is
+-- over
 abbrev pub AreFirstRecords : List ℕ → List RecordAnswer → Type 0
-AreFirstRecords bytes records = (stream rest : List ℕ) × (reader : ReaderState) × (bytes ≡ stream ++ rest) × HasRead stream (map outcome_of records) reader
+AreFirstRecords bytes records = (stream rest : List ℕ) × (reader : ReaderState) × (bytes ≡ stream ++ rest)
+    × HasRead stream (map outcome_of records) reader
     × (reader.finished ≡ true → rest ≡ [])
 
 -- it adds no entry, or is the answer for the query of the file
 abbrev pub IsQuietOrFor : List ℕ → ℕ → SearchAnswer → Type 0
 IsQuietOrFor bytes budget answer = (search_entries answer ≡ []) ⊎ IsSearchFor bytes budget answer
 
--- what a job may have answered when memory ran out in it: of a load, the first records of its file; of a search, itself, or nothing that
--- adds an entry. A withdrawal takes no memory
+-- what a job may have answered when memory ran out in it: of a load, the first records of its file; of a search,
+-- itself, or nothing that adds an entry. A withdrawal takes no memory
 abbrev pub AreBegun : Option (List ℕ) → ℕ → Order → List Answer → Type 0
-AreBegun (Some bytes) budget (Load file) answers = (records : List RecordAnswer) × AreFirstRecords bytes records × (answers ≡ map to_record records)
-AreBegun (Some bytes) budget (Search file own) answers = (answer : SearchAnswer) × IsQuietOrFor bytes (budget_or budget own) answer × (answers ≡ to_search answer ∷ [])
+AreBegun (Some bytes) budget (Load file) answers = (records : List RecordAnswer) × AreFirstRecords bytes records
+    × (answers ≡ map to_record records)
+AreBegun (Some bytes) budget (Search file own) answers = (answer : SearchAnswer)
+    × IsQuietOrFor bytes (budget_or budget own) answer × (answers ≡ to_search answer ∷ [])
 AreBegun _ budget order answers = ⊥
 
 -- memory ran out in the job, which had answered so far
-pub record IsJobBroken (k : Shape) (files : List (ℕ × List ℕ)) (budget : ℕ) (caller : Caller) (a b : Account) (job : Job) : Type 0 where
+pub record IsJobBroken (k : Shape) (files : List (ℕ × List ℕ)) (budget : ℕ) (caller : Caller) (a b : Account)
+    (job : Job) : Type 0 where
   pub answers : List Answer
   pub begun : AreBegun (bytes_at files job.line) budget job.order answers
   pub answered : AreAnswered k caller a b answers

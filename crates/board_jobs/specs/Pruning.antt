@@ -1,4 +1,5 @@
--- What a searcher has loaded for each of its answers, told by how long its lists of loads were at each of them (this project's own).
+-- What a searcher has loaded for each of its answers, told by how long its lists of loads were at each of them (this
+-- project's own).
 use Rattle.std.specs.Prelude.{◌≡◌, ℕ, zero, suc, ◌-◌, ◌≤◌, List, [], ◌∷◌, ◌++◌, length, map, take, drop}
 use mathlib.Core.Option.{some}
 use lib.ListN.{get_elem?}
@@ -56,7 +57,8 @@ pub record IsRested (a : Account) : Type 0 where
 pub record ArePrunedFor (query : QueryGraph) (loads : List CodeLoad) : Type 0 where
   pub need : Need
   pub need_is : IsNeedOf query need
-  pub pruned : (any : ℕ → List ℕ) → ((r : ℕ) → IsLoaded loads r → length (any r) ≡ 5) → Each (IsTold any) loads → IsPruned any (CoversCode need) loads
+  pub pruned : (any : ℕ → List ℕ) → ((r : ℕ) → IsLoaded loads r → length (any r) ≡ 5) → Each (IsTold any) loads
+      → IsPruned any (CoversCode need) loads
 
 -- the code words that were loaded for the answer at this place
 abbrev pub loaded_for : ℕ → Noted → List Noted → List CodeLoad → List CodeLoad
@@ -64,24 +66,31 @@ loaded_for i e es loads = between (began_at codes_then 0 es i) e.at.codes loads
 
 -- so is what was loaded for each search, of the answers from this place on
 abbrev pub SearchesPruned : ℕ → List Noted → List CodeLoad → Type 0
-SearchesPruned first es loads = (i : ℕ) (e : Noted) (query : QueryGraph) (budget front : ℕ) (reply : Reply) → first ≤ i → get_elem? es i ≡ some e
+SearchesPruned first es loads = (i : ℕ) (e : Noted) (query : QueryGraph) (budget front : ℕ) (reply : Reply) → first ≤ i
+    → get_elem? es i ≡ some e
     → e.entry ≡ Answered query budget front reply → ArePrunedFor query (loaded_for i e es loads)
 
 -- a caller that was at rest is so again, and what it has loaded for each search since is pruned
 abbrev pub StaysPruned : Account → Account → Type 0
-StaysPruned a b = IsRested a → IsRested b × SearchesPruned (length (answers_in a.entries)) (answers_in b.entries) (codes_loaded b)
+StaysPruned a b = IsRested a → IsRested b × SearchesPruned (length (answers_in a.entries)) (answers_in b.entries)
+    (codes_loaded b)
 
 -- the same of all searchers, which come after the loaders
 abbrev pub SearchersStayPruned : Shape → List Account → List Account → Type 0
-SearchersStayPruned k before after = (i : ℕ) (a b : Account) → k.loaders ≤ i → get_elem? before i ≡ some a → get_elem? after i ≡ some b → StaysPruned a b
+SearchersStayPruned k before after = (i : ℕ) (a b : Account) → k.loaders ≤ i → get_elem? before i ≡ some a
+    → get_elem? after i ≡ some b → StaysPruned a b
 
--- each of these lines that has hits tells as many rows as were loaded for its entry: it is the next after those of the lines before it
+-- each of these lines that has hits tells as many rows as were loaded for its entry: it is the next after those of the
+-- lines before it
 abbrev pub TellRows : List Line → List Noted → List CodeLoad → Type 0
-TellRows lines es loads = (earlier later : List Line) (line : Line) (query : QueryGraph) (budget front : ℕ) (hits : List Hit) (rows records : ℕ)
+TellRows lines es loads = (earlier later : List Line) (line : Line) (query : QueryGraph) (budget front : ℕ)
+    (hits : List Hit) (rows records : ℕ)
     → lines ≡ earlier ++ line ∷ later → line.answer ≡ to_search (hits_at query budget front hits rows records)
-    → (e : Noted) × (get_elem? es (length (printed earlier)) ≡ some e) × CountsLoaded (loaded_for (length (printed earlier)) e es loads) rows
+    → (e : Noted) × (get_elem? es (length (printed earlier)) ≡ some e)
+    × CountsLoaded (loaded_for (length (printed earlier)) e es loads) rows
 
--- a searcher's account at its end: it is at rest, what it has loaded for each search is pruned, and its lines tell how many rows that were
+-- a searcher's account at its end: it is at rest, what it has loaded for each search is pruned, and its lines tell how
+-- many rows that were
 pub record HasPruned (lines : List Line) (a : Account) : Type 0 where
   pub rested : IsRested a
   pub pruned : SearchesPruned 0 (answers_in a.entries) (codes_loaded a)

@@ -30,15 +30,15 @@ pub record IsLoadedFor (i : ℕ) (e : Noted) (es : List Noted) (words : List Wor
   pub to : index < e.at.facts
   pub there : get_elem? words index ≡ some l
 
--- each word that was loaded for a search, of the answers from this place on, is one of a record that is live and screened
--- at the search's front, by these words of a board
+-- each word that was loaded for a search, of the answers from this place on, is one of a record that is live and
+-- screened at the search's front, by these words of a board
 abbrev pub ReadOnlyScreened : Shape → Parts → ℕ → List Noted → List WordLoad → Type 0
 ReadOnlyScreened k p first es words = (i : ℕ) (e : Noted) (query : QueryGraph) (budget front : ℕ) (reply : Reply)
     → first ≤ i → get_elem? es i ≡ some e → e.entry ≡ Answered query budget front reply
     → (l : WordLoad) → IsLoadedFor i e es words l → IsOfScreened k p query front l.place
 
--- where such a search has hits, all name, atom and bond words of each record that is live and screened at its front were
--- loaded for it
+-- where such a search has hits, all name, atom and bond words of each record that is live and screened at its front
+-- were loaded for it
 abbrev pub ReadAllScreened : Shape → Parts → ℕ → List Noted → List WordLoad → Type 0
 ReadAllScreened k p first es words = (i : ℕ) (e : Noted) (query : QueryGraph) (budget front : ℕ) (hits : List Hit)
     → first ≤ i → get_elem? es i ≡ some e → e.entry ≡ Answered query budget front (Hits hits)

@@ -3,7 +3,8 @@ use Rattle.std.specs.Prelude.{ℕ, List, [], ◌∷◌, map}
 use Rattle.htss_defs.specs.declared.history.Event.TheVariants.{Publish, Withdraw}
 use Rattle.htss_defs.specs.declared.record.NamedMol.{NamedMol}
 use Rattle.report_text.specs.declared.report.WithdrawLine.{WithdrawLine}
-use Rattle.report_text.specs.declared.report.WithdrawLine.TheVariants.{At, Unknown as IsUnknown, Gone as IsGone, LogFull as IsFull}
+use Rattle.report_text.specs.declared.report.WithdrawLine.TheVariants.{At, Unknown as IsUnknown, Gone as IsGone}
+use Rattle.report_text.specs.declared.report.WithdrawLine.TheVariants.{LogFull as IsFull}
 use Rattle.report_rules.specs.Answers.{Answer, to_record, to_search, to_withdrawal}
 use Rattle.report_rules.specs.Answers.{Fate, published, no_room, no_page, chain_full, log_full}
 use Rattle.report_rules.specs.Answers.{not_accepted, taken, SearchAnswer, not_read, hits_at, over_at}
@@ -12,7 +13,8 @@ use Rattle.report_rules.specs.Rules.{caller_number}
 use Rattle.board_core.specs.declared.account.Account.{Account}
 use Rattle.board_core.specs.declared.entry.Entry.{Entry}
 use Rattle.board_core.specs.Answers.{answers_in}
-use Rattle.board_core.specs.declared.entry.Entry.TheVariants.{Published, Withdrawn, Answered, Unknown, Gone, LogFull, DataFull, NoPage, ChainFull}
+use Rattle.board_core.specs.declared.entry.Entry.TheVariants.{Published, Withdrawn, Answered, Unknown, Gone, LogFull}
+use Rattle.board_core.specs.declared.entry.Entry.TheVariants.{DataFull, NoPage, ChainFull}
 use Rattle.board_core.specs.declared.entry.Reply.TheVariants.{Hits, OverBudget}
 
 -- what an account has answered, the rows that a search has come to set aside

@@ -4,7 +4,8 @@ ghost use Rattle.report_rules.specs.Dealing.{Caller as ScriptCaller};
 ghost use Rattle.board.specs.Seated.{IsOf, IsLoader};
 ghost use Rattle.board_jobs.specs.Answering.{who_of};
 ghost use Rattle.board_jobs.specs.Jobs.{IsReady, IsThere, IsJobDone, IsJobBroken};
-ghost use Rattle.board_jobs.specs.Calls.{GoesOn, IsAtWork, IsOrderOf, IsSearched, IsWithdrawal, QueryBroke, SearchBroke, TellsReply};
+ghost use Rattle.board_jobs.specs.Calls.{GoesOn, IsAtWork, IsOrderOf, IsSearched, IsWithdrawal, QueryBroke};
+ghost use Rattle.board_jobs.specs.Calls.{SearchBroke, TellsReply};
 
 use crate::copies::{copied_file, copied_hits};
 use crate::load::load_file;
@@ -17,8 +18,8 @@ use script_text::{Files, Job, Order};
 use std::alloc::Global;
 use std::sync::Wait;
 
-/// Does a job, and answers its block. The list of hits is only there to be used again. An `Err` is want of memory: of a load the first
-/// records may have been answered then, and a search may have been.
+/// Does a job, and answers its block. The list of hits is only there to be used again. An `Err` is want of memory: of a
+/// load the first records may have been answered then, and a search may have been.
 pub fn do_job<R: Wait>(
     rt: &R,
     alloc: Global,
@@ -100,8 +101,10 @@ fn search(
 ) -> Result<SearchLine, OutOfMemory>
     requires work { IsAtWork board.now caller.old }
     requires size { length bytes.now < 2 ^ 32 }
-    ensures searched { IfOk result (λ line. IsSearched board.now.shape caller.old.account caller.new.account bytes.now budget line) }
-    ensures broken { IfErr result (λ _. SearchBroke board.now.shape caller.old.account caller.new.account bytes.now budget) }
+    ensures searched { IfOk result
+        (λ line. IsSearched board.now.shape caller.old.account caller.new.account bytes.now budget line) }
+    ensures broken { IfErr result
+        (λ _. SearchBroke board.now.shape caller.old.account caller.new.account bytes.now budget) }
     ensures goes_on { GoesOn board.now caller.old caller.new }
 {
     match read_query(alloc, bytes)? {
@@ -124,7 +127,8 @@ fn search_for(
 ) -> Result<SearchLine, OutOfMemory>
     requires work { IsAtWork board.now caller.old }
     ensures told { IfOk result (λ line. TellsReply board.now.shape caller.old.account caller.new.account query.now budget line) }
-    ensures broken { IfErr result (λ _. QueryBroke board.now.shape caller.old.account caller.new.account query.now budget) }
+    ensures broken { IfErr result
+        (λ _. QueryBroke board.now.shape caller.old.account caller.new.account query.now budget) }
     ensures goes_on { GoesOn board.now caller.old caller.new }
 {
     match searcher::search(alloc, board, caller, query, budget, hits) {

@@ -6,7 +6,8 @@ ghost use Rattle.ctfile.specs.RecordList.{IsRecordList};
 ghost use Rattle.ctfile.specs.Stream.{HasRead};
 ghost use Rattle.board_core.specs.declared.account.Account.{Account};
 ghost use Rattle.board.specs.Seated.{IsLoader};
-ghost use Rattle.board_jobs.specs.Calls.{AreLoaded, GoesOn, HaveBegun, IsAtWork, IsBegun, IsLoaded, IsTaken, refused_line};
+ghost use Rattle.board_jobs.specs.Calls.{AreLoaded, GoesOn, HaveBegun, IsAtWork, IsBegun, IsLoaded, IsTaken};
+ghost use Rattle.board_jobs.specs.Calls.{refused_line};
 
 use board::{Board, Caller};
 use ctfile::{Next, RecordReader};
@@ -21,7 +22,8 @@ use std::sync::Wait;
 // How many bytes of a file are read at once.
 const PIECE_SIZE: usize = 65536;
 
-/// Publishes the records of the file, and answers a line for each. An `Err` is want of memory; what was published before stays.
+/// Publishes the records of the file, and answers a line for each. An `Err` is want of memory; what was published
+/// before stays.
 pub fn load_file<R: Wait>(
     rt: &R,
     alloc: Global,
@@ -32,7 +34,8 @@ pub fn load_file<R: Wait>(
     requires work { IsAtWork board.now caller.old }
     requires loader { IsLoader caller.old }
     requires size { length bytes.now < 2 ^ 32 }
-    ensures loaded { IfOk result (λ lines. IsLoaded board.now.shape caller.old.account caller.new.account bytes.now lines.items) }
+    ensures loaded { IfOk result
+        (λ lines. IsLoaded board.now.shape caller.old.account caller.new.account bytes.now lines.items) }
     ensures broken { IfErr result (λ _. IsBegun board.now.shape caller.old.account caller.new.account bytes.now) }
     ensures goes_on { GoesOn board.now caller.old caller.new }
 {
@@ -86,8 +89,8 @@ fn publish_read<R: Wait>(
     }
 }
 
-// Publishes a record, and answers its line. The lock is taken once the record is staged. A record that the log has no entry for stays
-// staged.
+// Publishes a record, and answers its line. The lock is taken once the record is staged. A record that the log has no
+// entry for stays staged.
 fn publish_one<R: Wait>(
     rt: &R,
     board: &Board,
@@ -100,7 +103,8 @@ fn publish_one<R: Wait>(
     requires work { IsAtWork board.now caller.old }
     requires loader { IsLoader caller.old }
     requires marked { IsMarked mol }
-    ensures taken { IsTaken board.now.shape caller.old.account caller.new.account place (record { name = name; mol = mol }) result }
+    ensures taken { IsTaken board.now.shape caller.old.account caller.new.account place
+        (record { name = name; mol = mol }) result }
     ensures goes_on { GoesOn board.now caller.old caller.new }
 {
     match stage_with(board, caller, coder, &mol, &name) {

@@ -57,7 +57,8 @@ fn bytes_of(alloc: Global, name: &str) -> Result<Vec<u8>, Fail>
 // The job's file, if it has one, is put for its line. What stood there for other jobs stands still.
 fn put_file(alloc: Global, files: &mut Files, job: &Job) -> Result<(), Fail>
     ensures there { OnOk result (IsThere files.new job.now.line job.now.order) }
-    ensures still { OnOk result ((line : ℕ) (order : Order) → IsThere files.old line order → IsThere files.new line order) }
+    ensures still { OnOk result
+        ((line : ℕ) (order : Order) → IsThere files.old line order → IsThere files.new line order) }
 {
     match &job.order {
         Order::Load { file } | Order::Search { file, .. } => {

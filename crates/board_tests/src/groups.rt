@@ -1,5 +1,5 @@
-// A load and a search beside each other, of which one is held until the other has answered. The texts that are wanted were written by
-// hand.
+// A load and a search beside each other, of which one is held until the other has answered. The texts that are wanted
+// were written by hand.
 ghost use Rattle.std.specs.Prelude.{None};
 
 use crate::files::{files_of, script_of};

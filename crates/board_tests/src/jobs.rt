@@ -1,4 +1,5 @@
-// The jobs of scripts, done one after the other by a loader and a searcher. The texts that are wanted were written by hand.
+// The jobs of scripts, done one after the other by a loader and a searcher. The texts that are wanted were written by
+// hand.
 ghost use Rattle.std.specs.Prelude.{All, OnOk};
 ghost use Rattle.board.specs.Seated.{IsLoader};
 ghost use Rattle.board_jobs.specs.Calls.{IsAtWork};

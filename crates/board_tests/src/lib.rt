@@ -1,5 +1,6 @@
-//! Tests of the board and of what stands on it: the words of blocks (block_words), the steps of callers (board), the lock (pub_log),
-//! records that are staged (loader), searches (searcher), jobs (board_jobs), and groups of jobs (script_run).
+//! Tests of the board and of what stands on it: the words of blocks (block_words), the steps of callers (board), the
+//! lock (pub_log), records that are staged (loader), searches (searcher), jobs (board_jobs), and groups of jobs
+//! (script_run).
 #![tactic(auto)]
 
 #[cfg(test)]

@@ -30,8 +30,8 @@ pub(crate) fn stage_at_rest(
 
 const FULL: StageError = StageError::DataFull { left: 5, need: 10 };
 
-// One carbon: with a name of one byte its block has 3 + 1 + 1 + 5 words. Before the region stand 3 words, 2 announcements, 16 states,
-// 16 pages of 16 words, and 4 log words.
+// One carbon: with a name of one byte its block has 3 + 1 + 1 + 5 words. Before the region stand 3 words, 2
+// announcements, 16 states, 16 pages of 16 words, and 4 log words.
 #[test]
 fn stages_until_the_region_is_full(rt: HostRuntime) -> Result<(), Fail> {
     let (board, mut loader, _) = open_two(rt.alloc(), 45, 4)?;

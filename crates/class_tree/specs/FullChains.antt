@@ -10,7 +10,8 @@ use Rattle.board_core.specs.ChainRule.{HasFullChain}
 use Rattle.board_core.specs.CountRule.{insertions_of}
 use Rattle.board_core.specs.Holds.{Rule}
 
--- where the rule of the board holds, as it does at each moment: so many full pages of one chain have seven insertions each
+-- where the rule of the board holds, as it does at each moment: so many full pages of one chain have seven insertions
+-- each
 abbrev pub LawOfChains : Type 0
 LawOfChains = (k : Shape) (p : Parts) (history : List Event) (vs : List View) → Rule k p history vs
     → (pages : ℕ) → HasFullChain p.pages (sheet_of p.pool.states vs) pages → 7 * pages ≤ total insertions_of vs

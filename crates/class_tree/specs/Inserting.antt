@@ -33,13 +33,16 @@ pub record IsStocked (c : Seated) : Type 0 where
   pub size : length c.stock ≤ 32
   pub clean : c.account.pool.parted ≡ []
 
--- what an insertion leaves, whatever it answers: the row is begun, its five codes were loaded first, and the caller is unpinned. The
--- log, the region, and what was loaded of the log, of marks, names, atoms and bonds are as they were. All else that was loaded stays
+-- what an insertion leaves, whatever it answers: the row is begun, its five codes were loaded first, and the caller is
+-- unpinned. The log, the region, and what was loaded of the log, of marks, names, atoms and bonds are as they were. All
+-- else that was loaded stays
 pub record HasBegun (k : Shape) (c d : Seated) (row : Row) : Type 0 where
   pub who : d.account.who ≡ c.account.who
   pub unpinned : d.account.pool.announced ≡ 0
   pub begun : d.account.tree.begun ≡ c.account.tree.begun ++ row ∷ []
-  pub codes : (j : ℕ) (x : CodeLoad) → get_elem? (c.account.loads.codes ++ code_loads row 0 (own_codes k c.account row)) j ≡ some x → get_elem? d.account.loads.codes j ≡ some x
+  pub codes : (j : ℕ) (x : CodeLoad)
+      → get_elem? (c.account.loads.codes ++ code_loads row 0 (own_codes k c.account row)) j ≡ some x
+      → get_elem? d.account.loads.codes j ≡ some x
   pub log : d.account.log ≡ c.account.log
   pub room : d.account.room ≡ c.account.room
   pub fronts : d.account.loads.fronts ≡ c.account.loads.fronts
@@ -65,8 +68,8 @@ pub record AreNextCodes (a : Account) (x : Reached) (codes : List ℕ) : Type 0 
   pub from : Each (λ c. (n : ℕ) × In n x.slots × HasCode a (block_named n) (atom_named n) (length x.path) c) codes
   pub all : Each (λ n. (c : ℕ) × In c codes × HasCode a (block_named n) (atom_named n) (length x.path) c) x.slots
 
--- a full leaf above depth 5 on the row's walk needs so many pages for its split: a leaf for each next code of its rows, and an inner
--- page for seven of them
+-- a full leaf above depth 5 on the row's walk needs so many pages for its split: a leaf for each next code of its rows,
+-- and an inner page for seven of them
 pub record NeedsPages (k : Shape) (a : Account) (row : Row) (need : ℕ) : Type 0 where
   pub leaf : Reached
   pub there : In leaf a.tree.reached
@@ -82,8 +85,8 @@ pub record NeedsPages (k : Shape) (a : Account) (row : Row) (need : ℕ) : Type 
 abbrev pub IsNeeded : Shape → Account → Row → ℕ → Type 0
 IsNeeded k a row need = (need ≡ 1) ⊎ NeedsPages k a row need
 
--- so many pages were needed. The pool refused one while the stock was empty; then pages that had been taken were kept again, which are
--- fewer, and the caller was unpinned
+-- so many pages were needed. The pool refused one while the stock was empty; then pages that had been taken were kept
+-- again, which are fewer, and the caller was unpinned
 pub record WantsPage (k : Shape) (c d : Seated) (row : Row) : Type 0 where
   pub answered : HasAnswered c d PageWanted
   pub before : Seated
@@ -101,7 +104,8 @@ IsNowhere reached path code = (y : Reached) → IsMate reached path false y → 
 
 -- all slots of the page are taken, on each board that has the caller
 abbrev pub IsFullOn : Shape → Account → Reached → Type 0
-IsFullOn k a x = (p : Parts) (vs : List View) → HasBoard k p vs a → (i : ℕ) → i < page_room x.leaf → p.pages x.page (slot_at x.leaf i) ≢ 0
+IsFullOn k a x = (p : Parts) (vs : List View) → HasBoard k p vs a → (i : ℕ) → i < page_room x.leaf
+    → p.pages x.page (slot_at x.leaf i) ≢ 0
 
 -- the page of this rank in the chain of this path was reached, and is full. An inner page was read to its end
 pub record WasFull (k : Shape) (a : Account) (path : List ℕ) (leaf : Bool) (rank : ℕ) : Type 0 where
@@ -111,13 +115,15 @@ pub record WasFull (k : Shape) (a : Account) (path : List ℕ) (leaf : Bool) (ra
   pub full : IsFullOn k a page
   pub read : leaf ≡ false → length page.slots ≡ 7
 
--- each page that a chain may have was reached in a chain on the row's walk, and is full. In an inner chain none shows the row's code
+-- each page that a chain may have was reached in a chain on the row's walk, and is full. In an inner chain none shows
+-- the row's code
 pub record HasFullChain (k : Shape) (a : Account) (row : Row) : Type 0 where
   pub path : List ℕ
   pub leaf : Bool
   pub below : IsBelow path (own_codes k a row)
   pub full : (rank : ℕ) → rank < k.chain → WasFull k a path leaf rank
-  pub none : leaf ≡ false → (code : ℕ) → IsBelow (path ++ code ∷ []) (own_codes k a row) → IsNowhere a.tree.reached path code
+  pub none : leaf ≡ false → (code : ℕ) → IsBelow (path ++ code ∷ []) (own_codes k a row)
+      → IsNowhere a.tree.reached path code
 
 -- a chain on the row's walk was full; that is answered before the caller is unpinned
 pub record MetFullChain (k : Shape) (c d : Seated) (row : Row) (pages : ℕ) : Type 0 where

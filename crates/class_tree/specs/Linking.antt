@@ -1,5 +1,6 @@
 -- What a walk comes to behind a link, and in a chain of leaves (this project's own).
-use Rattle.std.specs.Prelude.{◌≡◌, ◌≢◌, ℕ, ◌+◌, ◌<◌, ◌≤◌, Bool, true, false, take, length, slice_index, Option, Some, None}
+use Rattle.std.specs.Prelude.{◌≡◌, ◌≢◌, ℕ, ◌+◌, ◌<◌, ◌≤◌, Bool, true, false, take, length, slice_index, Option, Some}
+use Rattle.std.specs.Prelude.{None}
 use mathlib.Core.Option.{some}
 use lib.ListN.{get_elem?}
 use Rattle.htss_defs.specs.declared.shape.Shape.{Shape}
@@ -27,7 +28,8 @@ abbrev pub GoesBehind : Shape → Seated → Seated → Stop → ℕ → ℕ →
 GoesBehind k c d s depth rank t None = Places c d t.row
 GoesBehind k c d s depth rank t (Some next) = IsNextLeaf k c d s next depth rank t
 
--- the next leaf of the chain, of which nothing is known. The leaf before it stands where it stood, whatever was read of it
+-- the next leaf of the chain, of which nothing is known. The leaf before it stands where it stood, whatever was read of
+-- it
 pub record IsPastLeaf (k : Shape) (c d : Seated) (s next : Stop) (depth rank : ℕ) (t : Target) : Type 0 where
   pub goes : Goes s.number c d
   pub place : place_of (here d.account s) ≡ place_of (here c.account s)
@@ -53,7 +55,8 @@ pub record IsPair (k : Shape) (a : Account) (x : Slot) (depth : ℕ) (t : Target
   pub room : x.index < 7
   pub code : get_elem? (here a x.stop).slots x.index ≡ some (slice_index t.codes depth)
 
--- the walk stands behind a link of this depth, at a leaf or at the first page of an inner chain, of which nothing is known
+-- the walk stands behind a link of this depth, at a leaf or at the first page of an inner chain, of which nothing is
+-- known
 pub record IsBehind (k : Shape) (a : Account) (x : Slot) (s : Stop) (depth : ℕ) (t : Target) : Type 0 where
   pub leaf : Bool
   pub at : IsAt k a s (take (depth + 1) t.codes) 0 leaf 0
@@ -84,8 +87,8 @@ pub record IsBehindFull (k : Shape) (a : Account) (x : Slot) (s : Stop) (depth :
   pub above : AreHigh a depth
   pub other : x.stop.number ≢ s.number
 
--- the walk came to an inner chain of this depth, at this page or the one that was reached next. It has linked the pages of one split
--- at most
+-- the walk came to an inner chain of this depth, at this page or the one that was reached next. It has linked the pages
+-- of one split at most
 pub record ComesIn (k : Shape) (c d : Seated) (s next : Stop) (depth : ℕ) (t : Target) : Type 0 where
   pub goes : Goes 0 c d
   pub linked : d.account.counts.linked ≤ c.account.counts.linked + 16

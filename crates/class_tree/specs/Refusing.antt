@@ -22,7 +22,8 @@ pub record Answers (c d : Seated) (e : Entry) : Type 0 where
   pub grows : LoadsOn c.account d.account
   pub rest : rest_of d.account ≡ record (rest_of c.account) { entries = c.account.entries ++ noted loads (e ∷ []) }
 
--- so many pages were wanted. The pool refused one to a caller that kept none; then those that had been taken were kept again
+-- so many pages were wanted. The pool refused one to a caller that kept none; then those that had been taken were kept
+-- again
 pub record WasRefused (k : Shape) (c d : Seated) (need : ℕ) : Type 0 where
   pub answers : Answers c d PageWanted
   pub before : Seated

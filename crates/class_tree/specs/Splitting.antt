@@ -1,4 +1,5 @@
--- The split of a full leaf: what is read of it, the pages that are taken, and what is stored in them (this project's own).
+-- The split of a full leaf: what is read of it, the pages that are taken, and what is stored in them (this project's
+-- own).
 use Rattle.std.specs.Prelude.{◌≡◌, ◌≢◌, ℕ, ◌+◌, ◌<◌, ◌≤◌, ◌⊎◌, true, List, [], length, take, slice_index}
 use mathlib.Core.Option.{some}
 use lib.ListN.{get_elem?}
@@ -33,7 +34,8 @@ pub record IsAtFull (k : Shape) (a : Account) (s : Stop) (depth : ℕ) : Type 0 
 
 -- codes and first words of blocks were loaded, and nothing else
 pub record Learns (c d : Seated) : Type 0 where
-  pub only : d ≡ with_account c (record c.account { loads = record c.account.loads { codes = d.account.loads.codes; heads = d.account.loads.heads } })
+  pub only : d ≡ with_account c (record c.account
+      { loads = record c.account.loads { codes = d.account.loads.codes; heads = d.account.loads.heads } })
   pub grows : LoadsOn c.account d.account
 
 -- entry i of a leaf is n, and c was loaded as the next code of its row
@@ -52,7 +54,8 @@ AreRowsOf a x rows nexts count = (i : ℕ) → i < count → IsRowOf a x i (slic
 -- the first n of these are own pages that were taken and are not kept. Each other own page is
 pub record AreTaken (c : Seated) (pages : List ℕ) (n : ℕ) : Type 0 where
   pub own : (q : ℕ) → HasOwn c.account q → IsAmong c.stock q ⊎ ((t : ℕ) × (t < n) × (slice_index pages t ≡ q))
-  pub mine : (t : ℕ) → t < n → IsPage c.shape (slice_index pages t) × HasOwn c.account (slice_index pages t) × ¬ (IsAmong c.stock (slice_index pages t))
+  pub mine : (t : ℕ) → t < n → IsPage c.shape (slice_index pages t) × HasOwn c.account (slice_index pages t)
+      × ¬ (IsAmong c.stock (slice_index pages t))
   pub apart : (t u : ℕ) → t < n → u < n → slice_index pages t ≡ slice_index pages u → t ≡ u
   pub few : length c.account.pool.own ≤ length c.stock + n
   pub size : length c.stock + n ≤ 32
@@ -69,14 +72,16 @@ pub record TakesAll (c d : Seated) (pages : List ℕ) (n : ℕ) : Type 0 where
 
 -- the first n words of an own page were stored
 abbrev pub AreStored : List Own → ℕ → (ℕ → ℕ) → ℕ → Type 0
-AreStored own page word n = 0 < n → Each (λ o. o.page ≡ page → (length o.words ≡ n) × ((i : ℕ) → i < n → slice_index o.words i ≡ word i)) own
+AreStored own page word n = 0 < n
+    → Each (λ o. o.page ≡ page → (length o.words ≡ n) × ((i : ℕ) → i < n → slice_index o.words i ≡ word i)) own
 
 -- only words of own pages were stored, in pages of this kind
 pub record StoresOnly (c d : Seated) (Touched : ℕ → Type 0) : Type 0 where
   pub after : d ≡ with_account c (record c.account { pool = record c.account.pool { own = d.account.pool.own } })
   pub same : (q : ℕ) → owns q d.account.pool.own ≡ owns q c.account.pool.own
   pub size : length d.account.pool.own ≡ length c.account.pool.own
-  pub others : (q : ℕ) → (Touched q → ⊥) → (word : ℕ → ℕ) (n : ℕ) → AreStored c.account.pool.own q word n → AreStored d.account.pool.own q word n
+  pub others : (q : ℕ) → (Touched q → ⊥) → (word : ℕ → ℕ) (n : ℕ) → AreStored c.account.pool.own q word n
+      → AreStored d.account.pool.own q word n
 
 -- the first n of these pages have all their words
 abbrev pub AreFilled : List Own → List ℕ → (ℕ → ℕ → ℕ) → ℕ → Type 0
@@ -85,8 +90,10 @@ AreFilled own pages word n = (t : ℕ) → t < n → AreStored own (slice_index 
 -- ---- the pages are ready
 
 -- from c to d the first n of these pages were made, which may take the leaf's place
-pub record IsMade (k : Shape) (c d : Seated) (x : Slot) (s : Stop) (depth : ℕ) (t : Target) (pages : List ℕ) (n : ℕ) : Type 0 where
+pub record IsMade (k : Shape) (c d : Seated) (x : Slot) (s : Stop) (depth : ℕ) (t : Target) (pages : List ℕ)
+    (n : ℕ) : Type 0 where
   pub takes : TakesAll c d pages n
   pub few : n ≤ 16
   pub some : 0 < n
-  pub may : MayExchangeLeaf k d.account x.stop.number x.index (slice_index t.codes depth) s.number (take n pages) (slice_index pages 0)
+  pub may : MayExchangeLeaf k d.account x.stop.number x.index (slice_index t.codes depth) s.number (take n pages)
+      (slice_index pages 0)

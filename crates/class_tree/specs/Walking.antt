@@ -1,5 +1,6 @@
 -- Where a walk down the class tree stands, and what each part of it leaves of the account (this project's own).
-use Rattle.std.specs.Prelude.{◌≡◌, ◌≢◌, ℕ, ◌+◌, ◌*◌, ◌-◌, ◌<◌, ◌≤◌, Bool, true, false, List, [], ◌∷◌, ◌++◌, length, slice_index, take}
+use Rattle.std.specs.Prelude.{◌≡◌, ◌≢◌, ℕ, ◌+◌, ◌*◌, ◌-◌, ◌<◌, ◌≤◌, Bool, true, false, List, [], ◌∷◌, ◌++◌, length}
+use Rattle.std.specs.Prelude.{slice_index, take}
 use mathlib.Core.Option.{some}
 use lib.ListN.{get_elem?}
 use Rattle.htss_defs.specs.declared.shape.Shape.{Shape}
@@ -70,11 +71,13 @@ shown_of x = record { place = place_of x; slots = x.slots }
 
 -- no inner page was reached below this depth
 abbrev pub AreHigh : Account → ℕ → Type 0
-AreHigh a depth = (j : ℕ) → j < length a.tree.reached → (visited a.tree.reached j).leaf ≡ false → length (visited a.tree.reached j).path ≤ depth
+AreHigh a depth = (j : ℕ) → j < length a.tree.reached → (visited a.tree.reached j).leaf ≡ false
+    → length (visited a.tree.reached j).path ≤ depth
 
 -- the code was read in no page of the inner chain of this path
 abbrev pub IsFresh : Account → List ℕ → ℕ → Type 0
-IsFresh a path code = (j : ℕ) → j < length a.tree.reached → (visited a.tree.reached j).leaf ≡ false → (visited a.tree.reached j).path ≡ path → In code (visited a.tree.reached j).slots → ⊥
+IsFresh a path code = (j : ℕ) → j < length a.tree.reached → (visited a.tree.reached j).leaf ≡ false
+    → (visited a.tree.reached j).path ≡ path → In code (visited a.tree.reached j).slots → ⊥
 
 -- from c to d a walk went on, and the first n pages that it has reached are known as they were
 pub record Goes (n : ℕ) (c d : Seated) : Type 0 where
@@ -83,7 +86,8 @@ pub record Goes (n : ℕ) (c d : Seated) : Type 0 where
   pub rest : rest_of d.account ≡ rest_of c.account
   pub grows : LoadsOn c.account d.account
   pub longer : length c.account.tree.reached ≤ length d.account.tree.reached
-  pub stays : (j : ℕ) → j < n → shown_of (visited d.account.tree.reached j) ≡ shown_of (visited c.account.tree.reached j)
+  pub stays : (j : ℕ) → j < n → shown_of (visited d.account.tree.reached j)
+      ≡ shown_of (visited c.account.tree.reached j)
 
 -- the walk stands at the page that it reached last, of which the first slots are known
 pub record IsAt (k : Shape) (a : Account) (s : Stop) (path : List ℕ) (rank : ℕ) (leaf : Bool) (known : ℕ) : Type 0 where
@@ -98,8 +102,8 @@ pub record IsAt (k : Shape) (a : Account) (s : Stop) (path : List ℕ) (rank : �
   pub unread : (here a s).more ≡ Unread
   pub not_zero : (here a s).zero ≡ false
 
--- the pages that a walk may still link from an inner chain of this depth on: one there, at each depth below it one more and the
--- sixteen of a split, and one leaf
+-- the pages that a walk may still link from an inner chain of this depth on: one there, at each depth below it one more
+-- and the sixteen of a split, and one leaf
 abbrev pub left_at : ℕ → ℕ
 left_at depth = 17 * (4 - depth) + 2
 
@@ -198,7 +202,8 @@ pub record IsFound (k : Shape) (c d : Seated) (x : Slot) (depth : ℕ) (t : Targ
 pub record Begins (k : Shape) (c d : Seated) (row : Row) : Type 0 where
   pub after : d ≡ with_account c d.account
   pub pool : d.account.pool ≡ c.account.pool
-  pub loads : d.account.loads ≡ record c.account.loads { codes = c.account.loads.codes ++ code_loads row 0 (own_codes k c.account row) }
+  pub loads : d.account.loads ≡ record c.account.loads
+      { codes = c.account.loads.codes ++ code_loads row 0 (own_codes k c.account row) }
   pub rest : rest_of d.account ≡ record (rest_of c.account) { begun = c.account.tree.begun ++ row ∷ [] }
 
 -- the row was placed in a leaf, and own pages are as they were

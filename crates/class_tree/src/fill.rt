@@ -23,9 +23,12 @@ fn fill_page(
     requires depth { depth < 5 }
     requires size { length pages.now ≡ pages_of groups.now.count }
     requires page { page < pages_of groups.now.count }
-    requires mine { IsPage board.now.shape (slice_index pages.now page) × HasOwn caller.old.account (slice_index pages.now page) }
+    requires mine { IsPage board.now.shape (slice_index pages.now page)
+        × HasOwn caller.old.account (slice_index pages.now page) }
     ensures only { StoresOnly caller.old caller.new (λ q. q ≡ slice_index pages.now page) }
-    ensures stored { AreStored caller.new.account.pool.own (slice_index pages.now page) (word_of depth groups.now.count (slice_index groups.now.codes) (entry_of groups.now.entries) (slice_index pages.now) page) 16 }
+    ensures stored { AreStored caller.new.account.pool.own (slice_index pages.now page)
+        (word_of depth groups.now.count (slice_index groups.now.codes) (entry_of groups.now.entries)
+        (slice_index pages.now) page) 16 }
 {
     for place in 0..16u8 {
         let word = groups.word(depth as u64, pages, page, place as usize);
@@ -39,10 +42,15 @@ pub(crate) fn fill(board: &Board, caller: &mut Caller, groups: &Groups, depth: u
     requires few { groups.now.count ≤ 14 }
     requires depth { depth < 5 }
     requires size { length pages.now ≡ pages_of groups.now.count }
-    requires mine { (t : ℕ) → t < length pages.now → IsPage board.now.shape (slice_index pages.now t) × HasOwn caller.old.account (slice_index pages.now t) }
-    requires apart { (t u : ℕ) → t < length pages.now → u < length pages.now → slice_index pages.now t ≡ slice_index pages.now u → t ≡ u }
-    ensures only { StoresOnly caller.old caller.new (λ q. (t : ℕ) × (t < length pages.now) × (slice_index pages.now t ≡ q)) }
-    ensures filled { AreFilled caller.new.account.pool.own pages.now (word_of depth groups.now.count (slice_index groups.now.codes) (entry_of groups.now.entries) (slice_index pages.now)) (length pages.now) }
+    requires mine { (t : ℕ) → t < length pages.now → IsPage board.now.shape (slice_index pages.now t)
+        × HasOwn caller.old.account (slice_index pages.now t) }
+    requires apart { (t u : ℕ) → t < length pages.now → u < length pages.now
+        → slice_index pages.now t ≡ slice_index pages.now u → t ≡ u }
+    ensures only { StoresOnly caller.old caller.new
+        (λ q. (t : ℕ) × (t < length pages.now) × (slice_index pages.now t ≡ q)) }
+    ensures filled { AreFilled caller.new.account.pool.own pages.now
+        (word_of depth groups.now.count (slice_index groups.now.codes) (entry_of groups.now.entries)
+        (slice_index pages.now)) (length pages.now) }
 {
     for page in 0..groups.pages() {
         fill_page(board, caller, groups, depth, pages, page);

@@ -1,5 +1,6 @@
 // Finding, or making, the place of a code in a chain of inner pages.
-ghost use Rattle.std.specs.Prelude.{◌≡◌, ◌≢◌, ℕ, ◌+◌, ◌*◌, ◌<◌, ◌≤◌, ◌^◌, false, length, slice_index, MatchOption, MatchResult};
+ghost use Rattle.std.specs.Prelude.{◌≡◌, ◌≢◌, ℕ, ◌+◌, ◌*◌, ◌<◌, ◌≤◌, ◌^◌, false, length, slice_index, MatchOption};
+ghost use Rattle.std.specs.Prelude.{MatchResult};
 ghost use Rattle.board.specs.Seated.{IsOf, IsLoader, with_account};
 ghost use Rattle.board_core.specs.After.{after_slot};
 ghost use Rattle.board_core.specs.Steps.{MayLink};

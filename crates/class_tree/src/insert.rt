@@ -36,7 +36,8 @@ pub enum InsertError {
 pub(crate) fn refuse_chain(board: &Board, caller: &mut Caller) -> InsertError
     requires fits { IsOf board.now caller.old }
     requires walked { HasWalked caller.old.account board.now.shape.chain }
-    ensures after { caller.new ≡ with_account caller.old (after_answer caller.old.account (ChainWasFull board.now.shape.chain ∷ [])) }
+    ensures after { caller.new ≡ with_account caller.old
+        (after_answer caller.old.account (ChainWasFull board.now.shape.chain ∷ [])) }
     ensures full { result ≡ ChainFull board.now.shape.chain }
 {
     note_answers::<Brand>(board, caller);
@@ -104,7 +105,8 @@ fn descend(
     ensures of { IsOf board.now caller.new }
     ensures loader { IsLoader caller.new }
     ensures stocked { IsStocked caller.new }
-    ensures placed { MatchResult result (λ _. Places caller.old caller.new target.now.row) (λ e. Stops board.now.shape caller.old caller.new target.now.row e) }
+    ensures placed { MatchResult result (λ _. Places caller.old caller.new target.now.row)
+        (λ e. Stops board.now.shape caller.old caller.new target.now.row e) }
 {
     let mut at = first;
     for depth in 0..5u8 {
@@ -121,9 +123,9 @@ fn descend(
     unreachable!()
 }
 
-/// Puts a row of the caller's into the tree, below its five codes. It begins the row, takes no memory, waits for nobody, and walks no
-/// chain twice: an exchange that another was faster at tells the word that stands there now, and the walk goes on from it. It splits
-/// each full leaf above depth 5 that it comes to.
+/// Puts a row of the caller's into the tree, below its five codes. It begins the row, takes no memory, waits for
+/// nobody, and walks no chain twice: an exchange that another was faster at tells the word that stands there now, and
+/// the walk goes on from it. It splits each full leaf above depth 5 that it comes to.
 pub fn insert_row(board: &Board, caller: &mut Caller, row: Row) -> Result<(), InsertError>
     requires fits { IsOf board.now caller.old }
     requires loader { IsLoader caller.old }
@@ -136,7 +138,8 @@ pub fn insert_row(board: &Board, caller: &mut Caller, row: Row) -> Result<(), In
     ensures loader { IsLoader caller.new }
     ensures stocked { IsStocked caller.new }
     ensures begun { HasBegun board.now.shape caller.old caller.new row }
-    ensures answer { MatchResult result (λ _. HasPlaced caller.old caller.new row) (λ e. IsRefusal board.now.shape caller.old caller.new row e) }
+    ensures answer { MatchResult result (λ _. HasPlaced caller.old caller.new row)
+        (λ e. IsRefusal board.now.shape caller.old caller.new row e) }
 {
     let target = begin(board, caller, row);
     pin(board, caller);

@@ -57,7 +57,8 @@ pub(crate) fn fill_leaf(
     requires fits { IsOf board.now caller.old }
     requires leaf { IsAtLeaf board.now.shape caller.old.account at depth rank 0 target.now }
     ensures placed { MatchBool result (EntersRow caller.old caller.new target.now.row)
-        (Reads caller.old caller.new at.number × IsAtLeaf board.now.shape caller.new.account at depth rank 14 target.now) }
+        (Reads caller.old caller.new at.number
+        × IsAtLeaf board.now.shape caller.new.account at depth rank 14 target.now) }
 {
     for index in 0..14u8 {
         if enter(board, caller, at, index, depth, rank, target) == 0 {
@@ -107,8 +108,8 @@ fn next_leaf(
     Ok(Some(stop_at(board, found, next)))
 }
 
-// The leaf behind this one of the last depth, by one load: a leaf that has a next one is full. Where there is none yet, the row is placed
-// in this leaf or behind it.
+// The leaf behind this one of the last depth, by one load: a leaf that has a next one is full. Where there is none yet,
+// the row is placed in this leaf or behind it.
 fn go_past(
     board: &Board,
     caller: &mut Caller,
@@ -140,7 +141,8 @@ fn go_past(
     next_leaf(board, caller, at, rank, target)
 }
 
-// Puts the row into the chain of leaves of the last depth that begins at this leaf. It reads the entries of no leaf that has a next one.
+// Puts the row into the chain of leaves of the last depth that begins at this leaf. It reads the entries of no leaf
+// that has a next one.
 pub(crate) fn fill_chain(
     board: &Board,
     caller: &mut Caller,
@@ -156,7 +158,8 @@ pub(crate) fn fill_chain(
     ensures of { IsOf board.now caller.new }
     ensures loader { IsLoader caller.new }
     ensures stocked { IsStocked caller.new }
-    ensures placed { MatchResult result (λ _. Places caller.old caller.new target.now.row) (λ e. Stops board.now.shape caller.old caller.new target.now.row e) }
+    ensures placed { MatchResult result (λ _. Places caller.old caller.new target.now.row)
+        (λ e. Stops board.now.shape caller.old caller.new target.now.row e) }
 {
     let chain = board.shape().chain;
     let mut at = first;

@@ -1,5 +1,5 @@
-//! Rows are put into the class tree: a tree of pages in which each row stands below its five codes, and which all loaders fill at once,
-//! without a lock, by single exchanges of words that are 0, and of links to full leaves.
+//! Rows are put into the class tree: a tree of pages in which each row stands below its five codes, and which all
+//! loaders fill at once, without a lock, by single exchanges of words that are 0, and of links to full leaves.
 #![tactic(auto)]
 
 mod fill;

@@ -63,8 +63,8 @@ fn reach(
     Ok(Some(stop_at(board, found, next)))
 }
 
-// Places the row in the leaf that hangs at a link of this depth, or behind it where leaves chain. Else it comes to an inner chain:
-// one that hangs there, or that takes the full leaf's place.
+// Places the row in the leaf that hangs at a link of this depth, or behind it where leaves chain. Else it comes to an
+// inner chain: one that hangs there, or that takes the full leaf's place.
 fn enter_child(
     board: &Board,
     caller: &mut Caller,

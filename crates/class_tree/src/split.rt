@@ -47,8 +47,8 @@ fn make_pages(
     Ok(need)
 }
 
-// Splits the full leaf here, which hangs at this link of an inner page. Answers the first page of the inner chain that took its place,
-// by this exchange or by another's.
+// Splits the full leaf here, which hangs at this link of an inner page. Answers the first page of the inner chain that
+// took its place, by this exchange or by another's.
 pub(crate) fn split_leaf(
     board: &Board,
     caller: &mut Caller,
@@ -66,7 +66,8 @@ pub(crate) fn split_leaf(
     ensures of { IsOf board.now caller.new }
     ensures loader { IsLoader caller.new }
     ensures stocked { IsStocked caller.new }
-    ensures comes { MatchResult result (λ next. ComesIn board.now.shape caller.old caller.new at next (depth + 1) target.now)
+    ensures comes { MatchResult result
+        (λ next. ComesIn board.now.shape caller.old caller.new at next (depth + 1) target.now)
         (λ _. LacksPages board.now.shape caller.old caller.new target.now.row) }
 {
     let mut pages = [0u32; 16];

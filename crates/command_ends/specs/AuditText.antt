@@ -15,9 +15,10 @@ use Rattle.command_ends.specs.RunText.{AreFilesOf, CanBeRead, ScriptWasRead, fil
 
 -- ---- what the audit reads
 
--- the script and the report were read, and all files of the script's jobs: the groups, the bytes of the report, and those of the files by
--- their lines
-pub record AuditWasRead (told : Option (List File)) (script report : List ℕ) (groups : List Group) (bytes : List ℕ) (files : List (ℕ × List ℕ)) : Type 0 where
+-- the script and the report were read, and all files of the script's jobs: the groups, the bytes of the report, and
+-- those of the files by their lines
+pub record AuditWasRead (told : Option (List File)) (script report : List ℕ) (groups : List Group) (bytes : List ℕ)
+    (files : List (ℕ × List ℕ)) : Type 0 where
   pub script_read : ScriptWasRead told script groups
   pub report_read : WasRead told report bytes
   pub files_read : AreFilesOf told files (jobs_of groups)
@@ -38,7 +39,8 @@ AuditReads told script report name = (name ≡ script) ⊎ ReadsAfterScript told
 -- ---- what it finds
 
 -- the bytes are the text of this report, which is one of its own log
-pub record IsReportText (groups : List Group) (files : List (ℕ × List ℕ)) (bytes : List ℕ) (report : Report) : Type 0 where
+pub record IsReportText (groups : List Group) (files : List (ℕ × List ℕ)) (bytes : List ℕ)
+    (report : Report) : Type 0 where
   pub text_is : report_text report ≡ bytes
   pub is : IsReport groups files report.shape report.budget report
 
@@ -49,9 +51,11 @@ pub record BreaksRule (groups : List Group) (files : List (ℕ × List ℕ)) (by
   pub text_is : report_text report ≡ bytes
   pub first : rules.IsFirstFault groups files report line
 
--- the line is the first at fault: the bytes leave off there to be the text of a report, or it is the first that breaks a rule
+-- the line is the first at fault: the bytes leave off there to be the text of a report, or it is the first that breaks
+-- a rule
 abbrev pub IsFirstAtFault : List Group → List (ℕ × List ℕ) → List ℕ → ℕ → Type 0
-IsFirstAtFault groups files bytes line = text.IsFirstFault (text.cut_lines bytes) line ⊎ BreaksRule groups files bytes line
+IsFirstAtFault groups files bytes line = text.IsFirstFault (text.cut_lines bytes) line
+    ⊎ BreaksRule groups files bytes line
 
 -- ---- its text
 
@@ -60,7 +64,8 @@ abbrev pub searches_of : List Group → ℕ
 searches_of groups = sum_by (λ group. sum_by (λ job. searches_in job.order) group.jobs) groups
 
 abbrev pub audit_line : ℕ → ℕ → List ℕ
-audit_line events searches = codes "audit" ++ spaced events ++ codes " events" ++ spaced searches ++ codes " searches" ++ 10 ∷ []
+audit_line events searches = codes "audit" ++ spaced events ++ codes " events" ++ spaced searches ++ codes " searches"
+    ++ 10 ∷ []
 
 -- at status 0: the report is one of its own log
 pub record IsAuditText (told : Option (List File)) (script report : List ℕ) (text : List ℕ) : Type 0 where

@@ -1,4 +1,5 @@
--- What a call of the program promises: an outcome with its cause, and the status and the bytes that it leaves (this project's own).
+-- What a call of the program promises: an outcome with its cause, and the status and the bytes that it leaves (this
+-- project's own).
 use Rattle.std.specs.Prelude.{◌≡◌, ◌⊎◌, ℕ, ◌≤◌, List, [], Option, None, Some, Ok}
 use Rattle.std.specs.Io.KnownBytes.{append_known}
 use Rattle.htss_defs.specs.QueryGraph.{QueryGraph}
@@ -7,7 +8,8 @@ use Rattle.outside.specs.Causes.{Rose, IsAbsent}
 use Rattle.outside.specs.Written.{GrewByFront}
 use Rattle.command_words.specs.Tasks.{Task, audit_of, check_of, codes_of, find_in, make_of, run_of, task_of}
 use Rattle.command_ends.specs.Outcomes.{CommandEnd, differs, done, stopped, status_of, text_of}
-use Rattle.command_ends.specs.Outcomes.{Why, not_a_command, out_of_memory, script_faulty, read_failed, file_absent, file_too_large}
+use Rattle.command_ends.specs.Outcomes.{Why, not_a_command, out_of_memory, script_faulty, read_failed, file_absent}
+use Rattle.command_ends.specs.Outcomes.{file_too_large}
 use Rattle.command_ends.specs.FindText.{IsCheckText, IsCodesText, IsFindText, QueryWasRead}
 use Rattle.command_ends.specs.MakeText.{IsMadeFront, IsMadeText}
 use Rattle.command_ends.specs.AuditText.{AuditReads, DiffersAt, IsAuditText}
@@ -39,7 +41,8 @@ pub record ShelfGoesOn (before now : ShelfSeen) : Type 0 where
 
 -- the file that `find` comes to read: the query first, and the SDfile where the query was read and is not refused
 abbrev pub FindReads : Option (List File) → List ℕ → List ℕ → List ℕ → Type 0
-FindReads told sdf query name = (name ≡ query) ⊎ ((name ≡ sdf) × (asked : QueryGraph) × QueryWasRead told query (Ok asked))
+FindReads told sdf query name = (name ≡ query)
+    ⊎ ((name ≡ sdf) × (asked : QueryGraph) × QueryWasRead told query (Ok asked))
 
 -- the task comes to read this file after this much of its text: all but `run` before there is any
 abbrev pub ComesToRead : Option (List File) → Task → List ℕ → List ℕ → Type 0
@@ -76,13 +79,16 @@ abbrev pub MayDiffer : Option (List File) → Task → ℕ → Type 0
 MayDiffer told (audit_of script report) line = DiffersAt told script report line
 MayDiffer told _ line = ⊥
 
--- between these moments the task may stop so, after this much of its text: each stop has its cause, but for want of memory
+-- between these moments the task may stop so, after this much of its text: each stop has its cause, but for want of
+-- memory
 abbrev pub MayStop : Task → ShelfSeen → ShelfSeen → List ℕ → Why → Type 0
 MayStop task before now front not_a_command = ⊥
 MayStop task before now front out_of_memory = IsFrontAtAnyTime before.told task front
 MayStop task before now front (script_faulty line) = (front ≡ []) × HasFaultyScript before.told task line
-MayStop task before now front (read_failed name) = ComesToRead before.told task front name × Rose before.faults now.faults
-MayStop task before now front (file_absent name) = ComesToRead before.told task front name × IsAbsent before.told name before.absent now.absent
+MayStop task before now front (read_failed name) = ComesToRead before.told task front name
+    × Rose before.faults now.faults
+MayStop task before now front (file_absent name) = ComesToRead before.told task front name
+    × IsAbsent before.told name before.absent now.absent
 MayStop task before now front (file_too_large name) = ComesToRead before.told task front name × IsLarge before.told name
 
 -- words that are no command line stop at once, by want of memory or with their own cause
@@ -107,7 +113,8 @@ IsWritten before now outcome status =
     ⊎ ((status ≡ 5) × Rose before.faults now.faults × GrewByFront before.written now.written (text_of outcome))
 
 -- the task, or words that have none, end with this status
-pub record EndsAs (task : Option Task) (shelf shelf_now : ShelfSeen) (out out_now : SinkSeen) (status : ℕ) : Type 0 where
+pub record EndsAs (task : Option Task) (shelf shelf_now : ShelfSeen) (out out_now : SinkSeen)
+    (status : ℕ) : Type 0 where
   pub outcome : CommandEnd
   pub may : MayComeOut task shelf shelf_now outcome
   pub written : IsWritten out out_now outcome status

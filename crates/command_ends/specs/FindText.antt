@@ -14,7 +14,8 @@ use Rattle.outside.specs.Files.{File, WasRead}
 use Rattle.command_ends.specs.RecordTexts.{accepted_records, check_text, codes_text, refused_lines}
 
 -- the file was read, and has this query or is refused so
-pub record QueryWasRead (told : Option (List File)) (name : List ℕ) (outcome : Result QueryGraph QueryRefusal) : Type 0 where
+pub record QueryWasRead (told : Option (List File)) (name : List ℕ)
+    (outcome : Result QueryGraph QueryRefusal) : Type 0 where
   pub bytes : List ℕ
   pub read : WasRead told name bytes
   pub is : IsFirstQueryOutcome bytes outcome
@@ -37,7 +38,8 @@ pub record IsRefusedQueryText (told : Option (List File)) (query : List ℕ) (te
   pub text_is : text ≡ query_refused_line refusal.line refusal.code
 
 -- the refused records of the SDfile, and then what a search of the others for this query answers under the budget
-pub record IsFoundIn (told : Option (List File)) (sdf : List ℕ) (asked : QueryGraph) (budget : ℕ) (text : List ℕ) : Type 0 where
+pub record IsFoundIn (told : Option (List File)) (sdf : List ℕ) (asked : QueryGraph) (budget : ℕ)
+    (text : List ℕ) : Type 0 where
   pub outcomes : List Outcome
   pub records_read : RecordsWereRead told sdf outcomes
   pub reply : Reply

@@ -26,7 +26,8 @@ carbon = record { test = Element 6; charge = pos 0; mass = 0 }
 abbrev pub plain_ring : QueryGraph
 plain_ring = record {
   atoms = carbon ∷ carbon ∷ carbon ∷ carbon ∷ carbon ∷ carbon ∷ [];
-  bonds = ring_bond 1 2 1 ∷ ring_bond 2 3 2 ∷ ring_bond 3 4 1 ∷ ring_bond 4 5 2 ∷ ring_bond 5 6 1 ∷ ring_bond 6 1 2 ∷ [];
+  bonds = ring_bond 1 2 1 ∷ ring_bond 2 3 2 ∷ ring_bond 3 4 1 ∷ ring_bond 4 5 2 ∷ ring_bond 5 6 1 ∷ ring_bond 6 1 2
+      ∷ [];
 }
 
 -- that ring, each flag as it is

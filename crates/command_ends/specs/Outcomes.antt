@@ -1,8 +1,10 @@
--- How a command comes out: with its text, or stopped before the end of it, with the status and the bytes of each (this project's own).
+-- How a command comes out: with its text, or stopped before the end of it, with the status and the bytes of each (this
+-- project's own).
 use Rattle.std.specs.Prelude.{ℕ, List, [], ◌∷◌, ◌++◌, decimal}
 use lib.Chars.{codes}
 use Rattle.outside.specs.declared.whole.ReadStop.{ReadStop}
-use Rattle.outside.specs.declared.whole.ReadStop.TheVariants.{Absent as IsGone, Failed as HasFailed, TooLarge as IsTooLarge, OutOfMemory}
+use Rattle.outside.specs.declared.whole.ReadStop.TheVariants.{Absent as IsGone, Failed as HasFailed}
+use Rattle.outside.specs.declared.whole.ReadStop.TheVariants.{TooLarge as IsTooLarge, OutOfMemory}
 use Rattle.command_ends.specs.declared.stop.Stop.{Stop}
 use Rattle.command_ends.specs.declared.stop.Stop.TheVariants.{Usage, Memory, Script, Failed, Absent, TooLarge}
 
@@ -15,7 +17,8 @@ pub data Why : Type 0 where
   file_absent : (name : List ℕ) → Why
   file_too_large : (name : List ℕ) → Why
 
--- the whole text; that of an audit whose report differs at this line; or what there was of the text, and why there is no more
+-- the whole text; that of an audit whose report differs at this line; or what there was of the text, and why there is
+-- no more
 pub data CommandEnd : Type 0 where
   done : (text : List ℕ) → CommandEnd
   differs : (line : ℕ) → CommandEnd

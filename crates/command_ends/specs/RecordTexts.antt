@@ -29,12 +29,14 @@ refused_lines place (refused line code ∷ outcomes) = refused_line place line c
 -- a line for each record from this place on
 abbrev pub check_lines : ℕ → List Outcome → List ℕ
 check_lines place [] = []
-check_lines place (accepted name mol ∷ outcomes) = ok_line place (length mol.atoms) (length mol.bonds) name ++ check_lines (place + 1) outcomes
+check_lines place (accepted name mol ∷ outcomes) = ok_line place (length mol.atoms) (length mol.bonds) name
+    ++ check_lines (place + 1) outcomes
 check_lines place (refused line code ∷ outcomes) = refused_line place line code ++ check_lines (place + 1) outcomes
 
 -- the text of `check`
 abbrev pub check_text : List Outcome → List ℕ
-check_text outcomes = check_lines 1 outcomes ++ records_line (length outcomes) (length (accepted_records outcomes)) (refused_count outcomes)
+check_text outcomes = check_lines 1 outcomes ++ records_line (length outcomes) (length (accepted_records outcomes))
+    (refused_count outcomes)
 
 -- a line for each atom of a molecule
 abbrev pub codes_lines : Molecule → List ℕ

@@ -62,7 +62,8 @@ jobs_of groups = flat_map (λ group. group.jobs) groups
 -- ---- the text
 
 -- the text is a report of its own log for the script, its files, the shape and the budget
-pub record IsRunText (told : Option (List File)) (script : List ℕ) (shape : Shape) (budget : ℕ) (text : List ℕ) : Type 0 where
+pub record IsRunText (told : Option (List File)) (script : List ℕ) (shape : Shape) (budget : ℕ)
+    (text : List ℕ) : Type 0 where
   pub groups : List Group
   pub script_read : ScriptWasRead told script groups
   pub files : List (ℕ × List ℕ)
@@ -71,8 +72,10 @@ pub record IsRunText (told : Option (List File)) (script : List ℕ) (shape : Sh
   pub is_report : IsReport groups files shape budget report
   pub text_is : text ≡ report_text report
 
--- the first line and the blocks of these groups: with the log of the events that they name they are a report of its own log
-pub record IsRunFront (told : Option (List File)) (groups : List Group) (shape : Shape) (budget : ℕ) (front : List ℕ) : Type 0 where
+-- the first line and the blocks of these groups: with the log of the events that they name they are a report of its own
+-- log
+pub record IsRunFront (told : Option (List File)) (groups : List Group) (shape : Shape) (budget : ℕ)
+    (front : List ℕ) : Type 0 where
   pub files : List (ℕ × List ℕ)
   pub files_read : AreFilesOf told files (jobs_of groups)
   pub report : Report
@@ -84,8 +87,10 @@ abbrev pub IsTextBefore : Option (List File) → List Group → Shape → ℕ �
 IsTextBefore told [] shape budget front = front ≡ []
 IsTextBefore told (group ∷ groups) shape budget front = IsRunFront told (group ∷ groups) shape budget front
 
--- the run comes to read this file of a job: the groups before are done, and the files of the group that stand before it were read
-pub record ReadsFileOfJob (told : Option (List File)) (script : List ℕ) (shape : Shape) (budget : ℕ) (front name : List ℕ) : Type 0 where
+-- the run comes to read this file of a job: the groups before are done, and the files of the group that stand before it
+-- were read
+pub record ReadsFileOfJob (told : Option (List File)) (script : List ℕ) (shape : Shape) (budget : ℕ)
+    (front name : List ℕ) : Type 0 where
   pub before : List Group
   pub group : Group
   pub after : List Group
@@ -98,16 +103,18 @@ pub record ReadsFileOfJob (told : Option (List File)) (script : List ℕ) (shape
 
 -- the run comes to read this file: its script, or a file of a job
 abbrev pub RunReads : Option (List File) → List ℕ → Shape → ℕ → List ℕ → List ℕ → Type 0
-RunReads told script shape budget front name = ((front ≡ []) × (name ≡ script)) ⊎ ReadsFileOfJob told script shape budget front name
+RunReads told script shape budget front name = ((front ≡ []) × (name ≡ script))
+    ⊎ ReadsFileOfJob told script shape budget front name
 
 -- the script was read, and this is the first line with the blocks of its first groups: of none, of some or of all
-pub record HasRunTo (told : Option (List File)) (script : List ℕ) (shape : Shape) (budget : ℕ) (front : List ℕ) : Type 0 where
+pub record HasRunTo (told : Option (List File)) (script : List ℕ) (shape : Shape) (budget : ℕ)
+    (front : List ℕ) : Type 0 where
   pub before : List Group
   pub after : List Group
   pub script_read : ScriptWasRead told script (before ++ after)
   pub front_is : IsRunFront told before shape budget front
 
--- what there may be of the text where memory runs out: nothing; or, where the script was read, the first line and the blocks of its first
--- groups, however many these are: none, some or all
+-- what there may be of the text where memory runs out: nothing; or, where the script was read, the first line and the
+-- blocks of its first groups, however many these are: none, some or all
 abbrev pub IsRunFrontAtAnyTime : Option (List File) → List ℕ → Shape → ℕ → List ℕ → Type 0
 IsRunFrontAtAnyTime told script shape budget front = (front ≡ []) ⊎ HasRunTo told script shape budget front

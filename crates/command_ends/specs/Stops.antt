@@ -2,7 +2,8 @@
 use Rattle.std.specs.Prelude.{List, ℕ, ◌≡◌, Some}
 use Rattle.outside.specs.Files.{IsLarge}
 use Rattle.outside.specs.Causes.{Rose, IsAbsent}
-use Rattle.command_ends.specs.Outcomes.{Why, not_a_command, out_of_memory, script_faulty, read_failed, file_absent, file_too_large}
+use Rattle.command_ends.specs.Outcomes.{Why, not_a_command, out_of_memory, script_faulty, read_failed, file_absent}
+use Rattle.command_ends.specs.Outcomes.{file_too_large}
 use Rattle.command_words.specs.Tasks.{Task}
 use Rattle.command_ends.specs.Outcomes.{CommandEnd}
 use Rattle.command_ends.specs.Ends.{IsWritten, MayComeOut, ShelfSeen, SinkSeen}

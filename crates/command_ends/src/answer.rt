@@ -46,7 +46,8 @@ pub fn write_difference<K: Sink>(out: &mut K, at: u64) -> u8
     }
 }
 
-/// Writes what there is of the text, and why there is no more, and answers the status of that, or 5 where it could not be written.
+/// Writes what there is of the text, and why there is no more, and answers the status of that, or 5 where it could not
+/// be written.
 pub fn write_stopped<K: Sink>(out: &mut K, front: &[u8], stop: Stop<'_>) -> u8
     ensures written { IsWritten (seen_out K.written K.faults out.old) (seen_out K.written K.faults out.new)
         (stopped front.now (stop_why stop.entry)) result }

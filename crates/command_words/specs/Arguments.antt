@@ -1,5 +1,6 @@
 -- What the words after a command say (this project's own).
-use Rattle.std.specs.Prelude.{ℕ, List, [], ◌∷◌, map, Option, Some, None, Bool, true, false, not, ◌&&◌, ◌||◌, ◌==◌, if◌then◌else◌}
+use Rattle.std.specs.Prelude.{ℕ, List, [], ◌∷◌, map, Option, Some, None, Bool, true, false, not, ◌&&◌, ◌||◌, ◌==◌}
+use Rattle.std.specs.Prelude.{if◌then◌else◌}
 use Rattle.std.specs.List.{list_all, list_any}
 use Rattle.std.specs.Option.{option_map}
 use Rattle.std.specs.Str.{bytes_eq}
@@ -93,7 +94,8 @@ are_distinct (name ∷ others) = not (is_one_of others name) && are_distinct oth
 abbrev pub option_value : List ℕ → List Argument → Option (List ℕ)
 option_value asked [] = None
 option_value asked (operand word ∷ arguments) = option_value asked arguments
-option_value asked (option name value ∷ arguments) = if bytes_eq name asked then Some value else option_value asked arguments
+option_value asked (option name value ∷ arguments) =
+    if bytes_eq name asked then Some value else option_value asked arguments
 option_value asked (flag name ∷ arguments) = option_value asked arguments
 
 -- an option that takes no value stands

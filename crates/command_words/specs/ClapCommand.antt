@@ -1,5 +1,6 @@
 -- The command of `clap` that reads words once none of them is a stray one, and what its matches say.
-use Rattle.std.specs.Prelude.{◌≡◌, ⊤, ℕ, List, [], Option, Some, None, true, false, fold, map, option_map, unwrap_or, if◌then◌else◌, codes}
+use Rattle.std.specs.Prelude.{◌≡◌, ⊤, ℕ, List, [], Option, Some, None, true, false, fold, map, option_map, unwrap_or}
+use Rattle.std.specs.Prelude.{if◌then◌else◌, codes}
 use Rattle.std.specs.Borrow.{Bor}
 use Rattle.clap.specs.Matches.{first_value, found_of, matched_of, one_text, raw_values}
 use Rattle.clap.specs.Walk.{Rule}
@@ -23,7 +24,8 @@ abbrev pub flag_argument : List ℕ → Rule
 flag_argument name = record (new_rule name) { long = Some name; action = Some SetTrue }
 
 abbrev pub words_app : App
-words_app = with_rule (on_top (λ s. record s { no_binary_name = true; disable_help_flag = true }) (new_app (codes "htss"))) words_argument
+words_app = with_rule (on_top (λ s. record s { no_binary_name = true; disable_help_flag = true })
+    (new_app (codes "htss"))) words_argument
 
 abbrev pub with_valued : App → List (List ℕ) → App
 with_valued app valued = fold (λ a name. with_rule a (valued_argument name)) app valued
@@ -46,7 +48,8 @@ value_said matches name = first_value (found_of matches) name
 -- the matches say what the arguments do
 pub record SaysArguments (options : Options) (matches : ArgMatches) (arguments : List Argument) : Type 0 where
   pub words : words_said matches ≡ operands arguments
-  pub value : (name : List ℕ) → is_one_of options.valued name ≡ true → is_one_of options.flags name ≡ false → value_said matches name ≡ option_value name arguments
+  pub value : (name : List ℕ) → is_one_of options.valued name ≡ true → is_one_of options.flags name ≡ false
+      → value_said matches name ≡ option_value name arguments
   pub flag : (name : List ℕ) → is_one_of options.valued name ≡ false → is_one_of options.flags name ≡ true
       → one_text (found_of matches) name ≡ Some (if has_flag name arguments then codes "true" else codes "false")
 

@@ -10,8 +10,9 @@ use Rattle.command_words.specs.Arguments.{Argument, Options, arguments, has_flag
 use Rattle.command_words.specs.declared.command.Command.{Command}
 use Rattle.command_words.specs.declared.command.Command.TheVariants.{Audit, Check, Codes, Find, Make, Run}
 
--- to find the records of an SDfile into which a query embeds, under a budget; to check the records of an SDfile; to tell the codes
--- of the atoms of a molfile; to make a file of records; to run a script on a registry; to audit a report of such a run
+-- to find the records of an SDfile into which a query embeds, under a budget; to check the records of an SDfile; to
+-- tell the codes of the atoms of a molfile; to make a file of records; to run a script on a registry; to audit a report
+-- of such a run
 pub data Task : Type 0 where
   find_in : (sdf query : List ℕ) (budget : ℕ) → Task
   check_of : (sdf : List ℕ) → Task
@@ -52,7 +53,8 @@ make_options = record { valued = []; flags = codes "summary" ∷ [] }
 
 abbrev pub run_options : Options
 run_options = record {
-  valued = codes "loaders" ∷ codes "searchers" ∷ codes "pages" ∷ codes "room" ∷ codes "log" ∷ codes "chain" ∷ codes "budget" ∷ [];
+  valued = codes "loaders" ∷ codes "searchers" ∷ codes "pages" ∷ codes "room" ∷ codes "log" ∷ codes "chain"
+      ∷ codes "budget" ∷ [];
   flags = [];
 }
 
@@ -109,7 +111,8 @@ run_with _ _ _ = None
 
 abbrev pub run_task : Option (List Argument) → Option Task
 run_task None = None
-run_task (Some arguments) = run_with (only (operands arguments)) (shape_said (λ name. option_value name arguments)) (budget_given arguments)
+run_task (Some arguments) = run_with (only (operands arguments)) (shape_said (λ name. option_value name arguments))
+    (budget_given arguments)
 
 abbrev pub audit_with : List (List ℕ) → Option Task
 audit_with (script ∷ report ∷ []) = Some (audit_of script report)

@@ -2,7 +2,8 @@
 ghost use Rattle.std.specs.Prelude.{◌≡◌, IfOk, List, map, string_bytes};
 ghost use Rattle.clap.specs.Simple.{app_of};
 ghost use Rattle.command_words.specs.Arguments.{arguments};
-ghost use Rattle.command_words.specs.ClapCommand.{AreMatchesOf, AreNames, app_for, options_of, with_flags, with_valued, words_app};
+ghost use Rattle.command_words.specs.ClapCommand.{AreMatchesOf, AreNames, app_for, options_of, with_flags, with_valued};
+ghost use Rattle.command_words.specs.ClapCommand.{words_app};
 
 use crate::strays::has_no_stray;
 use clap::error::ErrorKind;
@@ -10,7 +11,8 @@ use clap::{Arg, ArgAction, ArgMatches, Command};
 use htss_defs::OutOfMemory;
 use std::alloc::Global;
 
-/// What the words of a command with these options say, where each is a word of such a command. The options have a value, or none.
+/// What the words of a command with these options say, where each is a word of such a command. The options have a
+/// value, or none.
 pub(crate) fn read_matches<'a>(
     alloc: Global,
     valued: &[&'a str],

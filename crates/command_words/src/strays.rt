@@ -2,7 +2,8 @@
 ghost use Rattle.std.specs.Prelude.{◌≡◌, List, map, not, option_map, string_bytes};
 ghost use Rattle.std.specs.List.{list_all};
 ghost use Rattle.clap.specs.Lexer.{name_and_value, strip_byte};
-ghost use Rattle.command_words.specs.Arguments.{after_equals, before_equals, has_no_stray, is_one_of, is_stray, option_word, kind_of_word};
+ghost use Rattle.command_words.specs.Arguments.{after_equals, before_equals, has_no_stray, is_one_of, is_stray};
+ghost use Rattle.command_words.specs.Arguments.{option_word, kind_of_word};
 ghost use Rattle.command_words.specs.ClapCommand.{options_of};
 
 /// Whether no word is empty, is `--`, or begins with `-` and is none of these options.

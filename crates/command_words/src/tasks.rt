@@ -4,7 +4,10 @@ ghost use Rattle.std.specs.Option.{option_map};
 ghost use Rattle.htss_defs.specs.Shapes.{IsShape};
 ghost use Rattle.command_words.specs.Arguments.{arguments};
 ghost use Rattle.command_words.specs.ClapCommand.{value_said, words_said};
-ghost use Rattle.command_words.specs.Tasks.{IsInLimits, audit_task, audit_with, check_of, codes_of, command_task, find_options, find_task, find_with, given_or, make_options, make_task, make_with, make_words, no_options, number_in, one_file, only, run_options, run_task, run_with, shape_said};
+ghost use Rattle.command_words.specs.Tasks.{IsInLimits, audit_task, audit_with, check_of, codes_of, command_task};
+ghost use Rattle.command_words.specs.Tasks.{find_options, find_task, find_with, given_or, make_options, make_task};
+ghost use Rattle.command_words.specs.Tasks.{make_with, make_words, no_options, number_in, one_file, only, run_options};
+ghost use Rattle.command_words.specs.Tasks.{run_task, run_with, shape_said};
 
 use crate::Command;
 use crate::parse::read_matches;

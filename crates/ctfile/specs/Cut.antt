@@ -1,6 +1,7 @@
 -- Where the first section of the pending bytes of a stream ends.
 -- (CTfile Formats, "SDfiles": a section ends at a line $$$$. How a stream is cut is this project's own.)
-use Rattle.std.specs.Prelude.{◌≡◌, ◌≢◌, ◌⊎◌, ℕ, ◌+◌, ◌≤◌, List, [], ◌∷◌, ◌++◌, length, take, drop, All, Bool, true, false, not}
+use Rattle.std.specs.Prelude.{◌≡◌, ◌≢◌, ◌⊎◌, ℕ, ◌+◌, ◌≤◌, List, [], ◌∷◌, ◌++◌, length, take, drop, All, Bool, true}
+use Rattle.std.specs.Prelude.{false, not}
 use Rattle.std.specs.List.{list_any}
 use Rattle.mol_section.specs.Lines.{lines_of, ends_section}
 use Rattle.mol_section.specs.Fields.{is_blank}

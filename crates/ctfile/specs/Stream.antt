@@ -1,5 +1,6 @@
 -- A reader of a stream that comes in pieces: what it holds, what it takes, and what it has read (this project's own).
-use Rattle.std.specs.Prelude.{◌≡◌, ◌⊎◌, ℕ, ◌+◌, List, [], ◌++◌, ◌≤◌, ◌<◌, ◌^◌, length, Bool, true, false, Result, Ok, Err}
+use Rattle.std.specs.Prelude.{◌≡◌, ◌⊎◌, ℕ, ◌+◌, List, [], ◌++◌, ◌≤◌, ◌<◌, ◌^◌, length, Bool, true, false, Result, Ok}
+use Rattle.std.specs.Prelude.{Err}
 use Rattle.htss_defs.specs.Molecule.{Molecule}
 use Rattle.mol_section.specs.Lines.{lines_of}
 use Rattle.mol_section.specs.SectionRecord.{Outcome, accepted, refused, IsOutcome}
@@ -10,7 +11,8 @@ use Rattle.mol_section.specs.declared.outcome.SectionOutcome.TheVariants.{Accept
 use Rattle.ctfile.specs.declared.reader.Next.{Next}
 use Rattle.ctfile.specs.declared.reader.Next.TheVariants.{Accepted, Refused, NeedMore, End}
 
--- the bytes that no answer has taken, the records and the lines that were answered, the bytes fed in all, and whether the stream is over
+-- the bytes that no answer has taken, the records and the lines that were answered, the bytes fed in all, and whether
+-- the stream is over
 pub record ReaderState : Type 0 where
   pub pending : List ℕ
   pub place : ℕ

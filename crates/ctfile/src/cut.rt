@@ -1,5 +1,6 @@
 // The bytes of a stream that are pending, and where their first section ends.
-ghost use Rattle.std.specs.Prelude.{◌≡◌, ◌≢◌, ℕ, ◌+◌, ◌<◌, ◌≤◌, ◌++◌, ◌∷◌, length, take, drop, All, IfSome, IfNone, OnOk, OnErr};
+ghost use Rattle.std.specs.Prelude.{◌≡◌, ◌≢◌, ℕ, ◌+◌, ◌<◌, ◌≤◌, ◌++◌, ◌∷◌, length, take, drop, All, IfSome, IfNone};
+ghost use Rattle.std.specs.Prelude.{OnOk, OnErr};
 ghost use Rattle.std.specs.Prelude.{List, [], Bool, true, false};
 ghost use Rattle.mol_section.specs.Lines.{lines_of, without_cr};
 ghost use Rattle.mol_section.specs.Fields.{is_blank};
@@ -86,7 +87,8 @@ impl Pending {
         Ok(())
     }
 
-    // Drops the bytes before the start where they are at least half of all: so each byte is moved a few times, however it came.
+    // Drops the bytes before the start where they are at least half of all: so each byte is moved a few times, however
+    // it came.
     fn make_room(&mut self)
         ensures { self.new ≡ self.old }
     {

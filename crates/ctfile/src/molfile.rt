@@ -7,8 +7,8 @@ use htss_defs::{Mol, Name, OutOfMemory};
 use mol_section::{SectionOutcome, read_section};
 use std::alloc::Global;
 
-/// The name and the molecule of the first section of the bytes, an empty one too, with its ring bonds marked, or the line of the
-/// bytes, counted from 1, that is refused, with the code of the refusal.
+/// The name and the molecule of the first section of the bytes, an empty one too, with its ring bonds marked, or the
+/// line of the bytes, counted from 1, that is refused, with the code of the refusal.
 pub fn read_molfile(
     alloc: Global,
     bytes: &[u8],

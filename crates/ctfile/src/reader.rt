@@ -3,7 +3,8 @@ ghost use Rattle.std.specs.Prelude.{◌≡◌, ◌↔◌, ℕ, ◌+◌, ◌^◌,
 ghost use Rattle.std.specs.Prelude.{IfOk, OnOk, OnErr};
 ghost use Rattle.mol_section.specs.SectionRecord.{Outcome};
 ghost use Rattle.ctfile.specs.RecordList.{IsRecordList};
-ghost use Rattle.ctfile.specs.Stream.{HasRead, TakesRecord, NeedsMore, HasEnded, IfRecord, IfNoRecord, empty_state, with_piece};
+ghost use Rattle.ctfile.specs.Stream.{HasRead, TakesRecord, NeedsMore, HasEnded, IfRecord, IfNoRecord, empty_state};
+ghost use Rattle.ctfile.specs.Stream.{with_piece};
 ghost use Rattle.ctfile.specs.Stream.{answer_of};
 
 use crate::cut::Pending;
@@ -13,8 +14,8 @@ use ring_bonds::RingMarker;
 use std::alloc::Global;
 use std::marker::Model;
 
-/// What a reader answers: the next record of the stream, accepted, its ring bonds marked, or refused, with its place, counted
-/// from 1; that the next record depends on bytes that have not come; or that the stream has no record any more.
+/// What a reader answers: the next record of the stream, accepted, its ring bonds marked, or refused, with its place,
+/// counted from 1; that the next record depends on bytes that have not come; or that the stream has no record any more.
 #[derive(Debug, Drop)]
 pub enum Next {
     Accepted { place: u32, name: Name, mol: Mol },

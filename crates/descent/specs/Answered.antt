@@ -23,7 +23,8 @@ pub record HasSwept (k : Shape) (need : Need) (c d : Seated) (given : List Row) 
   pub after : d ≡ with_account between (after_answer between.account (Swept need c.account.tree.front given ∷ []))
   pub loads : List CodeLoad
   pub loads_are : (seat_of d.account).loads ≡ (seat_of c.account).loads ++ loads
-  pub pruned : (any : ℕ → List ℕ) → ((r : ℕ) → IsLoaded loads r → length (any r) ≡ 5) → Each (IsTold any) loads → IsPruned any (CoversCode need) loads
+  pub pruned : (any : ℕ → List ℕ) → ((r : ℕ) → IsLoaded loads r → length (any r) ≡ 5) → Each (IsTold any) loads
+      → IsPruned any (CoversCode need) loads
   pub rows : CountsLoaded loads count
   pub known : Each (λ r. KnowsRow d.account r.block × IsInTable k r.block) given
   pub atoms : Each (HasAtom d.account) given

@@ -1,4 +1,5 @@
--- What a search may load of rows: only rows whose first code covers, each code word once, and few rows that end at one class (this project's own).
+-- What a search may load of rows: only rows whose first code covers, each code word once, and few rows that end at one
+-- class (this project's own).
 use Rattle.std.specs.Prelude.{◌≡◌, ℕ, ◌≤◌, List, [], ◌∷◌, ◌++◌, length}
 use Rattle.board_core.specs.Each.{Each, In}
 use Rattle.descent.specs.Sweep.{AllCover}
@@ -20,7 +21,8 @@ AreOnce (l ∷ ls) = ((k : CodeLoad) → In k ls → k.row ≡ l.row → k.level
 
 -- of these rows, any that differ, have this path and a next code that does not cover, are at most 14
 abbrev pub Few : (ℕ → List ℕ) → (ℕ → ℕ → Type 0) → (ℕ → Type 0) → Type 0
-Few codes covers Is = (path : List ℕ) → AllCover covers 0 path → (ds : List ℕ) → AreDifferent ds → Each (λ r. Is r × IsDropped codes covers path r) ds → length ds ≤ 14
+Few codes covers Is = (path : List ℕ) → AllCover covers 0 path → (ds : List ℕ) → AreDifferent ds
+    → Each (λ r. Is r × IsDropped codes covers path r) ds → length ds ≤ 14
 
 -- the pruning of one search: these code words were loaded
 pub record IsPruned (codes : ℕ → List ℕ) (covers : ℕ → ℕ → Type 0) (ls : List CodeLoad) : Type 0 where

@@ -1,4 +1,5 @@
--- What the descent reads of an account: the pages that were reached since the pin, and the code words that were loaded (this project's own).
+-- What the descent reads of an account: the pages that were reached since the pin, and the code words that were loaded
+-- (this project's own).
 use Rattle.std.specs.Prelude.{ℕ, List, [], ◌∷◌, ◌++◌, map}
 use Rattle.board_core.specs.declared.account.Account.{Account}
 use Rattle.board_core.specs.declared.loads.CodeLoad.{CodeLoad as BoardLoad}

@@ -1,4 +1,5 @@
--- A descent that is done: each page that it reached was read to its end, and each code that covers was followed (this project's own).
+-- A descent that is done: each page that it reached was read to its end, and each code that covers was followed (this
+-- project's own).
 use Rattle.std.specs.Prelude.{◌≡◌, ℕ, ◌+◌, ◌⊎◌, Bool, false, List, [], ◌∷◌, ◌++◌, length}
 use mathlib.Core.Option.{some}
 use lib.ListN.{get_elem?}
@@ -20,5 +21,6 @@ pub record IsWhole (rs : List Reached) (on : List ℕ) (leaf : Bool) (x : Reache
 -- covers d c: the code c covers at depth d
 pub record IsSwept (covers : ℕ → ℕ → Type 0) (rs : List Reached) : Type 0 where
   pub root : (x : Reached) × IsWhole rs [] false x
-  pub down : (y : Reached) → In y rs → y.leaf ≡ false → (i c : ℕ) → get_elem? y.slots i ≡ some c → covers (length y.path) c
+  pub down : (y : Reached) → In y rs → y.leaf ≡ false → (i c : ℕ) → get_elem? y.slots i ≡ some c
+      → covers (length y.path) c
       → (get_elem? y.links i ≡ some Absent) ⊎ ((leaf : Bool) × (x : Reached) × IsWhole rs (y.path ++ c ∷ []) leaf x)

@@ -43,10 +43,13 @@ pub record MayMore (x : Reached) : Type 0 where
 -- a link was loaded, and the next page
 abbrev pub AfterLink : Seat → ℕ → ℕ → Option Visit → Seat → Type 0
 AfterLink s n i None t = t ≡ with_reached s (set s.reached n (with_link i Absent (visited s.reached n)))
-AfterLink s n i (Some v) t = (v.number ≡ length s.reached) × ((c : ℕ) × (leaf : Bool) × (get_elem? (visited s.reached n).slots i ≡ some c)
-    × (t ≡ with_reached s (set s.reached n (with_link i (To v.page) (visited s.reached n)) ++ led (visited s.reached n) i c v.page leaf ∷ [])))
+AfterLink s n i (Some v) t = (v.number ≡ length s.reached)
+    × ((c : ℕ) × (leaf : Bool) × (get_elem? (visited s.reached n).slots i ≡ some c)
+    × (t ≡ with_reached s (set s.reached n (with_link i (To v.page) (visited s.reached n))
+    ++ led (visited s.reached n) i c v.page leaf ∷ [])))
 
 abbrev pub AfterMore : Seat → ℕ → Option Visit → Seat → Type 0
 AfterMore s n None t = t ≡ with_reached s (set s.reached n (with_more Absent (visited s.reached n)))
 AfterMore s n (Some v) t = (v.number ≡ length s.reached)
-    × (t ≡ with_reached s (set s.reached n (with_more (To v.page) (visited s.reached n)) ++ next_of (visited s.reached n) v.page ∷ []))
+    × (t ≡ with_reached s (set s.reached n (with_more (To v.page) (visited s.reached n))
+    ++ next_of (visited s.reached n) v.page ∷ []))

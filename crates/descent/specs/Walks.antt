@@ -1,5 +1,6 @@
--- What a part of a descent did: to the pages that were reached, to the code words that were loaded and to the rows given (this project's own). All of it is
--- told by the caller's account alone: no word of the board and no code of a row is named that was not loaded.
+-- What a part of a descent did: to the pages that were reached, to the code words that were loaded and to the rows
+-- given (this project's own). All of it is told by the caller's account alone: no word of the board and no code of a
+-- row is named that was not loaded.
 use Rattle.std.specs.Prelude.{◌≡◌, ◌≢◌, ℕ, suc, ◌<◌, ◌≤◌, ◌^◌, ◌⊎◌, Bool, true, false, List, [], ◌∷◌, ◌++◌, length}
 use mathlib.Core.Option.{some}
 use lib.ListN.{get_elem?}
@@ -43,7 +44,8 @@ pub record IsMet (covers : ℕ → ℕ → Type 0) (rs : List Reached) (m : Met)
 pub record IsSifted (covers : ℕ → ℕ → Type 0) (ls : List CodeLoad) (r : ℕ) : Type 0 where
   pub last : ℕ
   pub most : last < 5
-  pub loaded : (i : ℕ) → i ≤ last → (c : ℕ) × In (load r i c) ls × (i < last → covers i c) × (i ≡ last → (last ≡ 4) ⊎ (covers i c → ⊥))
+  pub loaded : (i : ℕ) → i ≤ last → (c : ℕ) × In (load r i c) ls × (i < last → covers i c)
+      × (i ≡ last → (last ≡ 4) ⊎ (covers i c → ⊥))
 
 -- all five were loaded, and cover; one was loaded that does not
 abbrev pub IsGood : (ℕ → ℕ → Type 0) → List CodeLoad → ℕ → Type 0
@@ -69,7 +71,8 @@ pub record Gained (covers : ℕ → ℕ → Type 0) (rows : List ℕ) (ls : List
 
 -- of the rows met in leaves whose paths begin one path of less than five codes, any that differ are at most 14
 abbrev pub FewAt : List Met → Type 0
-FewAt ms = (q : List ℕ) → length q < 5 → (ds : List ℕ) → AreDifferent ds → Each (λ d. (m : Met) × In m ms × (m.row ≡ d) × IsBelow m.path q) ds → length ds ≤ 14
+FewAt ms = (q : List ℕ) → length q < 5 → (ds : List ℕ) → AreDifferent ds
+    → Each (λ d. (m : Met) × In m ms × (m.row ≡ d) × IsBelow m.path q) ds → length ds ≤ 14
 
 -- where the row was met: as an entry of this leaf, or below a code of this inner page that covers
 abbrev pub Comes : (ℕ → ℕ → Type 0) → Bool → Reached → Met → Type 0
@@ -108,7 +111,8 @@ pub record Stay (n : ℕ) (rs ss : List Reached) : Type 0 where
   pub others : (i : ℕ) → i < length rs → i ≢ n → visited ss i ≡ visited rs i
 
 -- one page was read: to its end, or up to the first slot that was 0
-pub record PageRead (chain : ℕ) (covers : ℕ → ℕ → Type 0) (n : ℕ) (leaf : Bool) (a b : Seat) (gs hs : List Row) (count : ℕ) (ended : Bool) : Type 0 where
+pub record PageRead (chain : ℕ) (covers : ℕ → ℕ → Type 0) (n : ℕ) (leaf : Bool) (a b : Seat) (gs hs : List Row)
+    (count : ℕ) (ended : Bool) : Type 0 where
   pub moment : SomeMoment chain b.reached
   pub stay : Stay n a.reached b.reached
   pub place : place_of (visited b.reached n) ≡ place_of (visited a.reached n)
@@ -119,7 +123,8 @@ pub record PageRead (chain : ℕ) (covers : ℕ → ℕ → Type 0) (n : ℕ) (l
   pub full : ended ≡ false → length (visited b.reached n).slots ≡ page_room leaf
   pub parts : Parts covers a b gs hs
   pub come : Each (Comes covers leaf (visited b.reached n)) parts.mets
-  pub done : (i : ℕ) → (i ≡ n) ⊎ (length a.reached ≤ i) → i < length b.reached → IsDone covers b.reached (rows_of parts.mets) (visited b.reached i)
+  pub done : (i : ℕ) → (i ≡ n) ⊎ (length a.reached ≤ i) → i < length b.reached
+      → IsDone covers b.reached (rows_of parts.mets) (visited b.reached i)
   pub counts : count ≡ length (rows_of parts.mets)
 
 -- a page of which nothing was read yet, where a chain begins or goes on
@@ -132,13 +137,15 @@ pub record IsBegun (covers : ℕ → ℕ → Type 0) (rs : List Reached) (n page
   pub cover : AllCover covers 0 (visited rs n).path
 
 -- a chain was read from its first page to its end, and all below it that covers
-pub record ChainRead (chain : ℕ) (covers : ℕ → ℕ → Type 0) (n : ℕ) (leaf : Bool) (a b : Seat) (gs hs : List Row) (count : ℕ) : Type 0 where
+pub record ChainRead (chain : ℕ) (covers : ℕ → ℕ → Type 0) (n : ℕ) (leaf : Bool) (a b : Seat) (gs hs : List Row)
+    (count : ℕ) : Type 0 where
   pub moment : SomeMoment chain b.reached
   pub stay : Stay n a.reached b.reached
   pub end : (e : Reached) × IsWhole b.reached (visited a.reached n).path leaf e
   pub parts : Parts covers a b gs hs
   pub come : Each (Below covers leaf (visited a.reached n).path) parts.mets
-  pub done : (i : ℕ) → (i ≡ n) ⊎ (length a.reached ≤ i) → i < length b.reached → IsDone covers b.reached (rows_of parts.mets) (visited b.reached i)
+  pub done : (i : ℕ) → (i ≡ n) ⊎ (length a.reached ≤ i) → i < length b.reached
+      → IsDone covers b.reached (rows_of parts.mets) (visited b.reached i)
   pub counts : count ≡ length (rows_of parts.mets)
 
 -- a row was offered: its codes were loaded from the first on, and say whether all cover
@@ -151,7 +158,8 @@ pub record Sifts (covers : ℕ → ℕ → Type 0) (r : ℕ) (a b : Seat) (all :
   pub most : length loads ≤ 5
   pub covered : (i : ℕ) (l : CodeLoad) → get_elem? loads i ≡ some l → suc i < length loads → covers i l.code
   pub good : all ≡ true → (length loads ≡ 5) × ((i : ℕ) (l : CodeLoad) → get_elem? loads i ≡ some l → covers i l.code)
-  pub bad : all ≡ false → (i : ℕ) (l : CodeLoad) → get_elem? loads i ≡ some l → suc i ≡ length loads → covers i l.code → ⊥
+  pub bad : all ≡ false → (i : ℕ) (l : CodeLoad) → get_elem? loads i ≡ some l → suc i ≡ length loads → covers i l.code
+      → ⊥
 
 pub record Offered (covers : ℕ → ℕ → Type 0) (r : ℕ) (a b : Seat) (gs hs : List Row) : Type 0 where
   pub all : Bool
@@ -175,17 +183,20 @@ pub record LeafAt (covers : ℕ → ℕ → Type 0) (rs : List Reached) (n page 
   pub no_more : (visited rs n).more ≡ Unread
 
 -- its link was loaded, and the chain that it leads to read to its end
-pub record Followed (chain : ℕ) (covers : ℕ → ℕ → Type 0) (n place : ℕ) (a b : Seat) (gs hs : List Row) (count : ℕ) : Type 0 where
+pub record Followed (chain : ℕ) (covers : ℕ → ℕ → Type 0) (n place : ℕ) (a b : Seat) (gs hs : List Row)
+    (count : ℕ) : Type 0 where
   pub moment : SomeMoment chain b.reached
   pub stay : Stay n a.reached b.reached
   pub link : Link
   pub now : visited b.reached n ≡ with_link place link (visited a.reached n)
   pub code : ℕ
   pub there : get_elem? (visited a.reached n).slots place ≡ some code
-  pub way : (link ≡ Absent) ⊎ ((leaf : Bool) × (e : Reached) × IsWhole b.reached ((visited a.reached n).path ++ code ∷ []) leaf e)
+  pub way : (link ≡ Absent) ⊎ ((leaf : Bool) × (e : Reached)
+      × IsWhole b.reached ((visited a.reached n).path ++ code ∷ []) leaf e)
   pub parts : Parts covers a b gs hs
   pub come : Each (λ m. IsBelow ((visited a.reached n).path ++ code ∷ []) m.path) parts.mets
-  pub done : (i : ℕ) → length a.reached ≤ i → i < length b.reached → IsDone covers b.reached (rows_of parts.mets) (visited b.reached i)
+  pub done : (i : ℕ) → length a.reached ≤ i → i < length b.reached
+      → IsDone covers b.reached (rows_of parts.mets) (visited b.reached i)
   pub counts : count ≡ length (rows_of parts.mets)
 
 -- ---- where the sink could take no more
@@ -206,20 +217,23 @@ pub record OfferFailed (a b : Seat) (gs hs : List Row) : Type 0 where
   pub loads_are : b.loads ≡ a.loads ++ loads
   pub given_are : hs ≡ gs
 
-pub record PageTried (chain : ℕ) (covers : ℕ → ℕ → Type 0) (n : ℕ) (leaf : Bool) (a b : Seat) (gs hs : List Row) : Type 0 where
+pub record PageTried (chain : ℕ) (covers : ℕ → ℕ → Type 0) (n : ℕ) (leaf : Bool) (a b : Seat)
+    (gs hs : List Row) : Type 0 where
   pub moment : SomeMoment chain b.reached
   pub stay : Stay n a.reached b.reached
   pub place : place_of (visited b.reached n) ≡ place_of (visited a.reached n)
   pub so_far : GivenSoFar covers a b gs hs
   pub come : Each (Comes covers leaf (visited b.reached n)) so_far.mets
 
-pub record ChainTried (chain : ℕ) (covers : ℕ → ℕ → Type 0) (n : ℕ) (leaf : Bool) (a b : Seat) (gs hs : List Row) : Type 0 where
+pub record ChainTried (chain : ℕ) (covers : ℕ → ℕ → Type 0) (n : ℕ) (leaf : Bool) (a b : Seat)
+    (gs hs : List Row) : Type 0 where
   pub moment : SomeMoment chain b.reached
   pub stay : Stay n a.reached b.reached
   pub so_far : GivenSoFar covers a b gs hs
   pub come : Each (Below covers leaf (visited a.reached n).path) so_far.mets
 
-pub record FollowTried (chain : ℕ) (covers : ℕ → ℕ → Type 0) (n place : ℕ) (a b : Seat) (gs hs : List Row) : Type 0 where
+pub record FollowTried (chain : ℕ) (covers : ℕ → ℕ → Type 0) (n place : ℕ) (a b : Seat)
+    (gs hs : List Row) : Type 0 where
   pub moment : SomeMoment chain b.reached
   pub stay : Stay n a.reached b.reached
   pub link : Link

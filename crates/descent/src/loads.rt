@@ -1,5 +1,6 @@
 // One call for each kind of load of a pinned caller. Each is one atomic step, and anybody may step in between.
-ghost use Rattle.std.specs.Prelude.{◌≡◌, ℕ, ◌+◌, ◌<◌, ◌^◌, ◌↔◌, Bool, false, List, [], ◌∷◌, ◌++◌, length, set, IfOk, IfErr, IsTrue, MatchOption};
+ghost use Rattle.std.specs.Prelude.{◌≡◌, ℕ, ◌+◌, ◌<◌, ◌^◌, ◌↔◌, Bool, false, List, [], ◌∷◌, ◌++◌, length, set, IfOk};
+ghost use Rattle.std.specs.Prelude.{IfErr, IsTrue, MatchOption};
 ghost use mathlib.Core.Option.{some};
 ghost use lib.ListN.{get_elem?};
 ghost use Rattle.board_core.specs.declared.room.Row.{Row};
@@ -62,7 +63,9 @@ pub(crate) fn slot(board: &Board, caller: &mut Caller, at: Visit, leaf: bool, in
     requires next { length (visited caller.old.account.tree.reached at.number).slots ≡ index }
     requires unread { (visited caller.old.account.tree.reached at.number).more ≡ Unread }
     requires room { index < page_room leaf }
-    ensures after { seat_of caller.new.account ≡ with_reached (seat_of caller.old.account) (set (seat_of caller.old.account).reached at.number (with_slot result (visited (seat_of caller.old.account).reached at.number))) }
+    ensures after { seat_of caller.new.account ≡ with_reached (seat_of caller.old.account)
+        (set (seat_of caller.old.account).reached at.number
+        (with_slot result (visited (seat_of caller.old.account).reached at.number))) }
     ensures board { SomeBoard board.now.shape caller.new.account }
     ensures only { OnlyLoads caller.old caller.new }
 {

@@ -31,7 +31,8 @@ impl Asks for Need {
 fn note_with<W: Sweeps, S: RowSink>(board: &Board, caller: &mut Caller, _need: &Need, _sink: &S)
     requires fits { IsOf board.now caller.old }
     requires may { MaySweep board.now.shape caller.old.account W.need W.front W.rows }
-    ensures after { caller.new ≡ with_account caller.old (after_answer caller.old.account (Swept W.need W.front W.rows ∷ [])) }
+    ensures after { caller.new ≡ with_account caller.old
+        (after_answer caller.old.account (Swept W.need W.front W.rows ∷ [])) }
     ensures before { SomeBoard board.now.shape caller.old.account }
     ensures board { SomeBoard board.now.shape caller.new.account }
 {
@@ -49,18 +50,21 @@ fn give_noted<S: RowSink>(
     requires fits { IsOf board.now caller.old }
     requires pinned { 0 < caller.old.account.pool.announced }
     requires past { S.given sink.old ≡ past }
-    ensures swept { IfOk result (λ n. (given : List Row) × (S.given sink.new ≡ past ++ given) × HasSwept board.now.shape need.now caller.old caller.new given n) }
+    ensures swept { IfOk result (λ n. (given : List Row) × (S.given sink.new ≡ past ++ given)
+        × HasSwept board.now.shape need.now caller.old caller.new given n) }
     ensures board { IfOk result (λ _. SomeBoard board.now.shape caller.new.account) }
-    ensures cut { IfErr result (λ _. HasCut board.now.shape (CoversCode need.now) caller.old caller.new (S.given sink.old) (S.given sink.new)) }
+    ensures cut { IfErr result (λ _. HasCut board.now.shape (CoversCode need.now) caller.old caller.new
+        (S.given sink.old) (S.given sink.new)) }
 {
     let rows = sweep(board, caller, need, sink)?;
     note_with::<Brand, S>(board, caller, need, sink);
     Ok(rows)
 }
 
-/// Gives the sink the rows whose codes cover the need, none twice, among them each covering row of the blocks that the events show
-/// which the caller had seen at its pin, and notes them. It answers how many rows it loaded. What the caller had reached before is set
-/// aside. Where the sink can take no more, it has got some rows that cover, none twice, and nothing is noted.
+/// Gives the sink the rows whose codes cover the need, none twice, among them each covering row of the blocks that the
+/// events show which the caller had seen at its pin, and notes them. It answers how many rows it loaded. What the
+/// caller had reached before is set aside. Where the sink can take no more, it has got some rows that cover, none
+/// twice, and nothing is noted.
 pub fn descend<S: RowSink>(
     board: &Board,
     caller: &mut Caller,
@@ -69,9 +73,11 @@ pub fn descend<S: RowSink>(
 ) -> Result<u64, OutOfMemory>
     requires fits { IsOf board.now caller.old }
     requires pinned { 0 < caller.old.account.pool.announced }
-    ensures swept { IfOk result (λ n. (given : List Row) × (S.given sink.new ≡ S.given sink.old ++ given) × HasSwept board.now.shape need.now caller.old caller.new given n) }
+    ensures swept { IfOk result (λ n. (given : List Row) × (S.given sink.new ≡ S.given sink.old ++ given)
+        × HasSwept board.now.shape need.now caller.old caller.new given n) }
     ensures board { IfOk result (λ _. SomeBoard board.now.shape caller.new.account) }
-    ensures cut { IfErr result (λ _. HasCut board.now.shape (CoversCode need.now) caller.old caller.new (S.given sink.old) (S.given sink.new)) }
+    ensures cut { IfErr result (λ _. HasCut board.now.shape (CoversCode need.now) caller.old caller.new
+        (S.given sink.old) (S.given sink.new)) }
 {
     give_noted(board, caller, need, sink)
 }

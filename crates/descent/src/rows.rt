@@ -80,8 +80,10 @@ pub(crate) fn offer<N: Asks, S: RowSink>(
     requires fits { IsOf board.now caller.old }
     requires met { HasMet caller.old.account at.number index row }
     requires place { IsInTable board.now.shape (block_named row) }
-    ensures ok { IfOk result (λ _. Offered (N.covers need.now) row (seat_of caller.old.account) (seat_of caller.new.account) (S.given sink.old) (S.given sink.new)) }
-    ensures err { IfErr result (λ _. OfferFailed (seat_of caller.old.account) (seat_of caller.new.account) (S.given sink.old) (S.given sink.new)) }
+    ensures ok { IfOk result (λ _. Offered (N.covers need.now) row (seat_of caller.old.account)
+        (seat_of caller.new.account) (S.given sink.old) (S.given sink.new)) }
+    ensures err { IfErr result (λ _. OfferFailed (seat_of caller.old.account) (seat_of caller.new.account)
+        (S.given sink.old) (S.given sink.new)) }
     ensures only { OnlyLoads caller.old caller.new }
 {
     if sift(board, caller, need, at, index, row) {

@@ -1,5 +1,6 @@
 // The descent: chains are read page by page, codes that cover are followed, and rows are offered.
-ghost use Rattle.std.specs.Prelude.{◌≡◌, ℕ, ◌+◌, ◌<◌, ◌≤◌, Bool, true, false, List, [], ◌∷◌, ◌++◌, length, IfOk, IfErr, IsTrue, ◌↔◌};
+ghost use Rattle.std.specs.Prelude.{◌≡◌, ℕ, ◌+◌, ◌<◌, ◌≤◌, Bool, true, false, List, [], ◌∷◌, ◌++◌, length, IfOk, IfErr};
+ghost use Rattle.std.specs.Prelude.{IsTrue, ◌↔◌};
 ghost use mathlib.Core.Option.{some};
 ghost use lib.ListN.{get_elem?};
 ghost use Rattle.board_core.specs.declared.account.View.{View};
@@ -12,7 +13,8 @@ ghost use Rattle.board.specs.Seated.{IsOf};
 ghost use Rattle.descent.specs.Seats.{seat_of};
 ghost use Rattle.descent.specs.Visits.{visited};
 ghost use Rattle.descent.specs.Standing.{Stands, OnlyLoads};
-ghost use Rattle.descent.specs.Walks.{IsBegun, PageRead, ChainRead, Followed, LeafAt, PageTried, ChainTried, FollowTried};
+ghost use Rattle.descent.specs.Walks.{IsBegun, PageRead, ChainRead, Followed, LeafAt, PageTried, ChainTried};
+ghost use Rattle.descent.specs.Walks.{FollowTried};
 ghost use Rattle.descent.specs.Descended.{IsDescended, HasCut};
 
 use crate::loads::{Visit, header, link, more, slot};
@@ -39,8 +41,11 @@ fn leaf_page<N: Asks, S: RowSink>(
     requires fits { IsOf board.now caller.old }
     requires page { IsPage board.now.shape at.page }
     requires at { IsBegun (N.covers need.now) (seat_of caller.old.account).reached at.number at.page true depth }
-    ensures ok { IfOk result (λ p. PageRead board.now.shape.chain (N.covers need.now) at.number true (seat_of caller.old.account) (seat_of caller.new.account) (S.given sink.old) (S.given sink.new) p.rows p.ended) }
-    ensures err { IfErr result (λ _. PageTried board.now.shape.chain (N.covers need.now) at.number true (seat_of caller.old.account) (seat_of caller.new.account) (S.given sink.old) (S.given sink.new)) }
+    ensures ok { IfOk result (λ p. PageRead board.now.shape.chain (N.covers need.now) at.number true
+        (seat_of caller.old.account) (seat_of caller.new.account) (S.given sink.old)
+        (S.given sink.new) p.rows p.ended) }
+    ensures err { IfErr result (λ _. PageTried board.now.shape.chain (N.covers need.now) at.number true
+        (seat_of caller.old.account) (seat_of caller.new.account) (S.given sink.old) (S.given sink.new)) }
     ensures pages { length caller.new.account.tree.reached ≡ length caller.old.account.tree.reached }
     ensures only { OnlyLoads caller.old caller.new }
 {
@@ -60,8 +65,8 @@ fn leaf_page<N: Asks, S: RowSink>(
     })
 }
 
-// Loads the link beside the last code that was loaded, and reads the chain that it leads to. More pages than can be counted are never
-// reached.
+// Loads the link beside the last code that was loaded, and reads the chain that it leads to. More pages than can be
+// counted are never reached.
 #[cycle(walk)]
 fn follow<N: Asks, S: RowSink>(
     board: &Board,
@@ -81,8 +86,10 @@ fn follow<N: Asks, S: RowSink>(
     requires small { index < 7 }
     requires depth { depth < 5 }
     requires board { SomeBoard board.now.shape caller.old.account }
-    ensures ok { IfOk result (λ n. Followed board.now.shape.chain (N.covers need.now) at.number index (seat_of caller.old.account) (seat_of caller.new.account) (S.given sink.old) (S.given sink.new) n) }
-    ensures err { IfErr result (λ _. FollowTried board.now.shape.chain (N.covers need.now) at.number index (seat_of caller.old.account) (seat_of caller.new.account) (S.given sink.old) (S.given sink.new)) }
+    ensures ok { IfOk result (λ n. Followed board.now.shape.chain (N.covers need.now) at.number index
+        (seat_of caller.old.account) (seat_of caller.new.account) (S.given sink.old) (S.given sink.new) n) }
+    ensures err { IfErr result (λ _. FollowTried board.now.shape.chain (N.covers need.now) at.number index
+        (seat_of caller.old.account) (seat_of caller.new.account) (S.given sink.old) (S.given sink.new)) }
     ensures stands { Stands board.now caller.new count.new }
     ensures only { OnlyLoads caller.old caller.new }
 {
@@ -113,8 +120,11 @@ fn inner_page<N: Asks, S: RowSink>(
     requires page { IsPage board.now.shape at.page }
     requires at { IsBegun (N.covers need.now) (seat_of caller.old.account).reached at.number at.page false depth }
     requires depth { depth < 5 }
-    ensures ok { IfOk result (λ p. PageRead board.now.shape.chain (N.covers need.now) at.number false (seat_of caller.old.account) (seat_of caller.new.account) (S.given sink.old) (S.given sink.new) p.rows p.ended) }
-    ensures err { IfErr result (λ _. PageTried board.now.shape.chain (N.covers need.now) at.number false (seat_of caller.old.account) (seat_of caller.new.account) (S.given sink.old) (S.given sink.new)) }
+    ensures ok { IfOk result (λ p. PageRead board.now.shape.chain (N.covers need.now) at.number false
+        (seat_of caller.old.account) (seat_of caller.new.account) (S.given sink.old)
+        (S.given sink.new) p.rows p.ended) }
+    ensures err { IfErr result (λ _. PageTried board.now.shape.chain (N.covers need.now) at.number false
+        (seat_of caller.old.account) (seat_of caller.new.account) (S.given sink.old) (S.given sink.new)) }
     ensures stands { Stands board.now caller.new count.new }
     ensures only { OnlyLoads caller.old caller.new }
 {
@@ -147,8 +157,11 @@ fn page<N: Asks, S: RowSink>(
     requires page { IsPage board.now.shape at.page }
     requires at { IsBegun (N.covers need.now) (seat_of caller.old.account).reached at.number at.page leaf depth }
     requires depth { leaf ≡ false → depth < 5 }
-    ensures ok { IfOk result (λ p. PageRead board.now.shape.chain (N.covers need.now) at.number leaf (seat_of caller.old.account) (seat_of caller.new.account) (S.given sink.old) (S.given sink.new) p.rows p.ended) }
-    ensures err { IfErr result (λ _. PageTried board.now.shape.chain (N.covers need.now) at.number leaf (seat_of caller.old.account) (seat_of caller.new.account) (S.given sink.old) (S.given sink.new)) }
+    ensures ok { IfOk result (λ p. PageRead board.now.shape.chain (N.covers need.now) at.number leaf
+        (seat_of caller.old.account) (seat_of caller.new.account) (S.given sink.old)
+        (S.given sink.new) p.rows p.ended) }
+    ensures err { IfErr result (λ _. PageTried board.now.shape.chain (N.covers need.now) at.number leaf
+        (seat_of caller.old.account) (seat_of caller.new.account) (S.given sink.old) (S.given sink.new)) }
     ensures stands { Stands board.now caller.new count.new }
     ensures only { OnlyLoads caller.old caller.new }
 {
@@ -183,8 +196,10 @@ fn chain<N: Asks, S: RowSink>(
     requires at { IsBegun (N.covers need.now) (seat_of caller.old.account).reached first.number first.page leaf depth }
     requires depth { depth ≤ 5 }
     requires inner { leaf ≡ false → depth < 5 }
-    ensures ok { IfOk result (λ n. ChainRead board.now.shape.chain (N.covers need.now) first.number leaf (seat_of caller.old.account) (seat_of caller.new.account) (S.given sink.old) (S.given sink.new) n) }
-    ensures err { IfErr result (λ _. ChainTried board.now.shape.chain (N.covers need.now) first.number leaf (seat_of caller.old.account) (seat_of caller.new.account) (S.given sink.old) (S.given sink.new)) }
+    ensures ok { IfOk result (λ n. ChainRead board.now.shape.chain (N.covers need.now) first.number leaf
+        (seat_of caller.old.account) (seat_of caller.new.account) (S.given sink.old) (S.given sink.new) n) }
+    ensures err { IfErr result (λ _. ChainTried board.now.shape.chain (N.covers need.now) first.number leaf
+        (seat_of caller.old.account) (seat_of caller.new.account) (S.given sink.old) (S.given sink.new)) }
     ensures stands { Stands board.now caller.new count.new }
     ensures only { OnlyLoads caller.old caller.new }
 {
@@ -209,10 +224,11 @@ fn chain<N: Asks, S: RowSink>(
     }
 }
 
-/// Gives each row whose codes all cover the need, none twice, among them each of the blocks that the events show which the caller had
-/// seen at its pin. It answers how many rows it loaded. What the caller had reached before is set aside. Where the sink can take no more,
-/// it has got rows that cover, none twice. A descent loads each word of the pages on its way once, and at most the first word of the block and five
-/// codes for each entry that it reads. It takes what memory the sink takes, and does not wait.
+/// Gives each row whose codes all cover the need, none twice, among them each of the blocks that the events show which
+/// the caller had seen at its pin. It answers how many rows it loaded. What the caller had reached before is set aside.
+/// Where the sink can take no more, it has got rows that cover, none twice. A descent loads each word of the pages on
+/// its way once, and at most the first word of the block and five codes for each entry that it reads. It takes what
+/// memory the sink takes, and does not wait.
 pub fn sweep<N: Asks, S: RowSink>(
     board: &Board,
     caller: &mut Caller,
@@ -223,8 +239,11 @@ pub fn sweep<N: Asks, S: RowSink>(
     requires pinned { 0 < caller.old.account.pool.announced }
     ensures only { OnlyLoads caller.old caller.new }
     ensures means { IfOk result (λ n. (p : Parts) (vs : List View) → HasBoard board.now.shape p vs caller.new.account
-        → IsDescended (codes_in board.now.shape p.regions) (IsPlaced vs) (IsOldRow board.now.shape p.regions p.log.slots caller.old.account.tree.front) (N.covers need.now) (seat_of caller.old.account).loads (seat_of caller.new.account) (S.given sink.old) (S.given sink.new) n) }
-    ensures cut { IfErr result (λ _. HasCut board.now.shape (N.covers need.now) caller.old caller.new (S.given sink.old) (S.given sink.new)) }
+        → IsDescended (codes_in board.now.shape p.regions) (IsPlaced vs)
+        (IsOldRow board.now.shape p.regions p.log.slots caller.old.account.tree.front) (N.covers need.now)
+        (seat_of caller.old.account).loads (seat_of caller.new.account) (S.given sink.old) (S.given sink.new) n) }
+    ensures cut { IfErr result (λ _. HasCut board.now.shape (N.covers need.now) caller.old caller.new (S.given sink.old)
+        (S.given sink.new)) }
 {
     let _limits = board.shape();
     begin_walk(board, caller);

@@ -1,5 +1,6 @@
 -- The bonds of a query that lead to its next atom.
-use Rattle.std.specs.Prelude.{◌≡◌, ◌≢◌, ℕ, ◌+◌, ◌-◌, ◌*◌, ◌/◌, ◌<◌, ◌≤◌, List, length, slice_get, slice_index, slice_index_or, min, max, All, Some, IsTrue}
+use Rattle.std.specs.Prelude.{◌≡◌, ◌≢◌, ℕ, ◌+◌, ◌-◌, ◌*◌, ◌/◌, ◌<◌, ◌≤◌, List, length, slice_get, slice_index}
+use Rattle.std.specs.Prelude.{slice_index_or, min, max, All, Some, IsTrue}
 use Rattle.htss_defs.specs.declared.query.QueryBond.{QueryBond}
 use Rattle.htss_defs.specs.Graph.{Graph}
 use Rattle.htss_defs.specs.Adjacency.{place_of_end}
@@ -41,7 +42,8 @@ KeepsBelow q g m map p link =
     (h : ℕ) → h < link → place_of_end g.bonds h ≡ length map + 1
     → (d : QueryBond) → IsTrue (bond_keeps m map p (slice_index_or q.bonds (h / 2) d))
 
--- the link is that of the first bond on the chain of atom n that joins it to one before it, or there is none and it is 0
+-- the link is that of the first bond on the chain of atom n that joins it to one before it, or there is none and it is
+-- 0
 pub record IsLead (q : QueryGraph) (g : Graph) (n link : ℕ) : Type 0 where
   pub within : link ≤ 2 * length g.bonds
   pub here : 0 < link → place_of_end g.bonds (link - 1) ≡ n

@@ -8,8 +8,8 @@ use crate::placed::Placed;
 use crate::places::PlaceSet;
 use crate::target::Target;
 
-/// Takes the cost of going on from a map that keeps all tests from what is left; false exactly where it is more than that. Where the
-/// answer is true, the map is as it was.
+/// Takes the cost of going on from a map that keeps all tests from what is left; false exactly where it is more than
+/// that. Where the answer is true, the map is as it was.
 pub fn count(target: &Target<'_>, left: &mut u64, map: &mut Placed) -> bool
     requires partial { IsPartial target.now.query.now target.now.mol.now map.old }
     requires price { target.now.price ≡ length target.now.mol.now.atoms }

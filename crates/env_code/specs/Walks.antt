@@ -1,5 +1,6 @@
 -- A walk outwards from one place of a graph: the places seen so far stand in a queue.
-use Rattle.std.specs.Prelude.{◌≡◌, ◌⊎◌, ℕ, ◌+◌, ◌≤◌, ◌<◌, List, min, length, slice_index, slice_index_or, slice_set, if◌then◌else◌, Bool, true, false, ◌&&◌}
+use Rattle.std.specs.Prelude.{◌≡◌, ◌⊎◌, ℕ, ◌+◌, ◌≤◌, ◌<◌, List, min, length, slice_index, slice_index_or, slice_set}
+use Rattle.std.specs.Prelude.{if◌then◌else◌, Bool, true, false, ◌&&◌}
 use Rattle.std.specs.List.{count_by}
 use Rattle.htss_defs.specs.Graph.{Graph}
 use Rattle.htss_defs.specs.Distances.{graph_places, are_bonded, is_within}
@@ -12,7 +13,8 @@ seen_at w y = slice_index_or w.seen y false
 -- one more in each of these lanes
 pub record IsTallied (lanes : List Bool) (counts after : List ℕ) : Type 0 where
   pub size : length after ≡ 8
-  pub at : (i : ℕ) → i < 8 → slice_index after i ≡ min (slice_index counts i + (if slice_index_or lanes i false then 1 else 0)) 255
+  pub at : (i : ℕ) → i < 8
+      → slice_index after i ≡ min (slice_index counts i + (if slice_index_or lanes i false then 1 else 0)) 255
 
 pub record IsSized (w : Walk) : Type 0 where
   pub seen : length w.seen ≡ 1000
@@ -30,7 +32,8 @@ pub record IsVisit (lanes : List (List Bool)) (place : ℕ) (v w : Walk) : Type 
   pub seen : w.seen ≡ slice_set v.seen place true
   pub queue : w.queue ≡ slice_set v.queue v.found place
   pub found : w.found ≡ v.found + 1
-  pub counts : (i : ℕ) → i < 8 → slice_index w.counts i ≡ min (slice_index v.counts i + (if is_in lanes i place then 1 else 0)) 255
+  pub counts : (i : ℕ) → i < 8
+      → slice_index w.counts i ≡ min (slice_index v.counts i + (if is_in lanes i place then 1 else 0)) 255
 
 -- the place is visited, unless it has been seen
 pub record IsReach (lanes : List (List Bool)) (place : ℕ) (v w : Walk) : Type 0 where
@@ -51,7 +54,8 @@ pub record IsQueued (g : Graph) (w : Walk) (y : ℕ) : Type 0 where
 pub record IsWalk (g : Graph) (lanes : List (List Bool)) (w : Walk) : Type 0 where
   pub sized : IsSized w
   pub number : count_by (seen_at w) (graph_places g) ≡ w.found
-  pub counts : (i : ℕ) → i < 8 → slice_index w.counts i ≡ min (count_by (λ y. seen_at w y && is_in lanes i y) (graph_places g)) 255
+  pub counts : (i : ℕ) → i < 8
+      → slice_index w.counts i ≡ min (count_by (λ y. seen_at w y && is_in lanes i y) (graph_places g)) 255
   pub queued : (j : ℕ) → j < w.found → IsQueued g w (slice_index w.queue j)
   pub stands : (y : ℕ) → 1 ≤ y → y ≤ g.atoms → seen_at w y ≡ true → StandsAt w y
 

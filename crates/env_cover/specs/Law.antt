@@ -18,8 +18,10 @@ pub record Embeds (q : QueryGraph) (m : Molecule) (map : List ℕ) : Type 0 wher
 
 -- where an embedding sends an atom of a query to one of a molecule, the codes of the one cover the need of the other
 abbrev pub LawOfCover : Type 0
-LawOfCover = (q : QueryGraph) (m : Molecule) (map : List ℕ) (u : ℕ) → Embeds q m map → 1 ≤ u → u ≤ length q.atoms → Covers (need_at q u) (codes_at m (place_of map u))
+LawOfCover = (q : QueryGraph) (m : Molecule) (map : List ℕ) (u : ℕ) → Embeds q m map → 1 ≤ u → u ≤ length q.atoms
+    → Covers (need_at q u) (codes_at m (place_of map u))
 
 -- so a molecule into which a query embeds has an atom whose codes cover the need of the pivot
 abbrev pub LawOfScreening : Type 0
-LawOfScreening = (q : QueryGraph) (m : Molecule) (map : List ℕ) (pivot : ℕ) → Embeds q m map → IsPivot q pivot → IsScreened q m
+LawOfScreening = (q : QueryGraph) (m : Molecule) (map : List ℕ) (pivot : ℕ) → Embeds q m map → IsPivot q pivot
+    → IsScreened q m

@@ -10,4 +10,5 @@ Reaches need code = (i : ℕ) → i < 8 → lane need i ≤ lane code i
 
 -- one code covers: it reaches the need's word of its level, and the test of the need allows the element of code 0
 abbrev pub CoversCode : Need → ℕ → ℕ → Type 0
-CoversCode need level code = (level ≡ 0 → IsTrue (allows need.test (lane code 0))) × Reaches (slice_index need.words level) code
+CoversCode need level code = (level ≡ 0 → IsTrue (allows need.test (lane code 0)))
+    × Reaches (slice_index need.words level) code

@@ -45,4 +45,5 @@ query_refused_line line code = codes "query refused" ++ refusal_text line code
 
 -- so many records, of which so many were accepted and so many refused
 unfoldable pub records_line : ℕ → ℕ → ℕ → List ℕ
-records_line records accepted refused = codes "records" ++ spaced records ++ codes " ok" ++ spaced accepted ++ codes " refused" ++ spaced refused ++ 10 ∷ []
+records_line records accepted refused = codes "records" ++ spaced records ++ codes " ok" ++ spaced accepted
+    ++ codes " refused" ++ spaced refused ++ 10 ∷ []

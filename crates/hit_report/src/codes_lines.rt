@@ -6,8 +6,8 @@ ghost use Rattle.hit_report.specs.Appends.{KeepsFront};
 use crate::append::{append_bytes, append_number, kept_or_cut};
 use htss_defs::{Codes, OutOfMemory};
 
-/// Appends the line of the codes of an atom, `ATOM CODE CODE CODE CODE CODE` with 16 hexadecimal digits a code. An `Err` leaves
-/// the text as it was.
+/// Appends the line of the codes of an atom, `ATOM CODE CODE CODE CODE CODE` with 16 hexadecimal digits a code. An
+/// `Err` leaves the text as it was.
 pub fn push_codes(text: &mut Vec<u8>, atom: u16, codes: &Codes) -> Result<(), OutOfMemory>
     ensures ok { OnOk result (text.new.items ≡ text.old.items ++ codes_line atom codes.now) }
     ensures err { OnErr result (text.new.items ≡ text.old.items) }

@@ -33,8 +33,8 @@ pub fn push_count(text: &mut Vec<u8>, count: u32) -> Result<(), OutOfMemory>
     kept_or_cut(text, before, appended)
 }
 
-/// Appends the line that stands in place of hits that the budget does not allow, `overbudget N` with the budget. An `Err` leaves
-/// the text as it was.
+/// Appends the line that stands in place of hits that the budget does not allow, `overbudget N` with the budget. An
+/// `Err` leaves the text as it was.
 pub fn push_overbudget(text: &mut Vec<u8>, budget: u64) -> Result<(), OutOfMemory>
     ensures ok { OnOk result (text.new.items ≡ text.old.items ++ overbudget_line budget) }
     ensures front { KeepsFront text.old.items text.new.items }

@@ -1,6 +1,7 @@
 // Lines of records and of refusals.
 ghost use Rattle.std.specs.Prelude.{◌≡◌, ℕ, ◌∷◌, ◌++◌, [], OnOk, OnErr};
-ghost use Rattle.hit_report.specs.RecordLines.{code_word, ok_line, query_refused_line, records_line, refusal_text, refused_line};
+ghost use Rattle.hit_report.specs.RecordLines.{code_word, ok_line, query_refused_line, records_line, refusal_text};
+ghost use Rattle.hit_report.specs.RecordLines.{refused_line};
 ghost use Rattle.hit_report.specs.Appends.{KeepsFront};
 
 use crate::append::{append_bytes, append_name, append_spaced, kept_or_cut};

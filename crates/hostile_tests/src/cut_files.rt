@@ -6,7 +6,8 @@ use std::sync::Wait;
 use std::test::Fail;
 use std::thread::Threads;
 
-// The first front, the one after the last, and the line, code and word of the refusal: none where the record is accepted.
+// The first front, the one after the last, and the line, code and word of the refusal: none where the record is
+// accepted.
 const FRONTS: [(usize, usize, &str); 11] = [
     (1, 3, "2 12 NoEnd"),
     (3, 4, "3 12 NoEnd"),
@@ -105,8 +106,8 @@ const LOADED: &str = "load 1 c.sdf\npublished 1 c\nloaded 1\n";
 
 const LOG: &str = "log 1\nevent 1 publish 1 1 0 c\nend\n";
 
-// The first front of the script, the one after the last, its status, and whether the header, the load and the log stand in the report, each
-// with what stands before the next.
+// The first front of the script, the one after the last, its status, and whether the header, the load and the log stand
+// in the report, each with what stands before the next.
 const SCRIPTS: [(usize, usize, u8, &[&str]); 15] = [
     (0, 1, 0, &[HEADER, "log 0\nend\n"]),
     (1, 6, 3, &["stop 3 script 1\n"]),

@@ -1,5 +1,5 @@
-// Random differences: what the program answers over drawn records beside what is computed in another way. A board answers as the plain registry does, and
-// `find`, which screens, as a search of each record does.
+// Random differences: what the program answers over drawn records beside what is computed in another way. A board
+// answers as the plain registry does, and `find`, which screens, as a search of each record does.
 ghost use Rattle.std.specs.Prelude.{IfOk, OnOk};
 ghost use Rattle.htss_defs.specs.Marked.{IsMarked};
 ghost use Rattle.outside.specs.Memory.{HaveOwnNames};

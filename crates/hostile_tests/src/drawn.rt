@@ -34,7 +34,8 @@ struct Line {
     topology: u16,
 }
 
-// A bond of each atom but the first to an earlier one, and with more than three atoms mostly one more, which closes a ring.
+// A bond of each atom but the first to an earlier one, and with more than three atoms mostly one more, which closes a
+// ring.
 fn drawn_bonds(
     alloc: Global,
     draws: &mut Pcg32,

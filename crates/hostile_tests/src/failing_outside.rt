@@ -1,4 +1,5 @@
-// Each read and each write of each command fails in turn. A failed read is told with the file's name; a failed write leaves a front of the text.
+// Each read and each write of each command fails in turn. A failed read is told with the file's name; a failed write
+// leaves a front of the text.
 use crate::lines::{LINES, Line, SCRIPT};
 use crate::made::done;
 use outside::MemSink;
@@ -8,7 +9,8 @@ use std::sync::Wait;
 use std::test::Fail;
 use std::thread::Threads;
 
-// What a command line does whose sink takes so many bytes at a time, and has so much room in all; one call fails, and one takes nothing.
+// What a command line does whose sink takes so many bytes at a time, and has so much room in all; one call fails, and
+// one takes nothing.
 #[derive(Clone, Copy, Drop)]
 struct Way {
     failing_read: u64,

@@ -1,7 +1,6 @@
-//! Tests of hostile use, of the top call over files and sinks in memory: each read and each write of each command fails in turn, each file is cut
-//! after each byte, boards are as small as they may be, drawn records
-//! are loaded and searched beside plain ways to do so, and the reports of drawn scripts are audited, whole, cut, and
-//! changed in one word.
+//! Tests of hostile use, of the top call over files and sinks in memory: each read and each write of each command fails
+//! in turn, each file is cut after each byte, boards are as small as they may be, drawn records are loaded and searched
+//! beside plain ways to do so, and the reports of drawn scripts are audited, whole, cut, and changed in one word.
 #![tactic(auto)]
 
 #[cfg(test)]

@@ -1,8 +1,9 @@
-// Command lines over the files of the cases, one or more for each command and each status that a file can cause. The texts that are wanted were
-// written by hand.
+// Command lines over the files of the cases, one or more for each command and each status that a file can cause. The
+// texts that are wanted were written by hand.
 use crate::made::Given;
 
-// A part of the text that stands in the output before a file is read, and the file. Each file is read in two calls: the second finds its end.
+// A part of the text that stands in the output before a file is read, and the file. Each file is read in two calls: the
+// second finds its end.
 #[derive(Clone, Copy, Drop)]
 pub(crate) struct Read {
     pub(crate) before: &'static str,

@@ -1,6 +1,7 @@
 -- Chains of the ends of bonds: end 2 k is the first end of bond k, end 2 k + 1 its second.
 -- A link names an end by one more than its number; 0 names none.
-use Rattle.std.specs.Prelude.{◌≡◌, ◌≢◌, ℕ, ◌*◌, ◌-◌, ◌/◌, ◌%◌, ◌<◌, ◌≤◌, ◌==◌, List, [], ◌∷◌, ◌++◌, All, Some, length, slice_get, slice_index, slice_index_or, if◌then◌else◌, IsTrue}
+use Rattle.std.specs.Prelude.{◌≡◌, ◌≢◌, ℕ, ◌*◌, ◌-◌, ◌/◌, ◌%◌, ◌<◌, ◌≤◌, ◌==◌, List, [], ◌∷◌, ◌++◌, All, Some, length}
+use Rattle.std.specs.Prelude.{slice_get, slice_index, slice_index_or, if◌then◌else◌, IsTrue}
 use Rattle.htss_defs.specs.declared.graph.Ends.{Ends}
 use Rattle.htss_defs.specs.Graph.{Graph, AreEnds, joins}
 

@@ -1,6 +1,7 @@
 -- The five codes of an atom: counts over ever wider neighbourhoods (this project's own).
 -- A code is a word of eight lanes of one byte, lane 0 the lowest. A count stops at 255.
-use Rattle.std.specs.Prelude.{ℕ, ◌-◌, ◌*◌, ◌/◌, ◌%◌, ◌^◌, [], ◌∷◌, sum_by, min, leb, slice_index_or, if◌then◌else◌, Bool, true, not, ◌==◌, ◌&&◌, ◌||◌, pos}
+use Rattle.std.specs.Prelude.{ℕ, ◌-◌, ◌*◌, ◌/◌, ◌%◌, ◌^◌, [], ◌∷◌, sum_by, min, leb, slice_index_or, if◌then◌else◌}
+use Rattle.std.specs.Prelude.{Bool, true, not, ◌==◌, ◌&&◌, ◌||◌, pos}
 use Rattle.std.specs.List.{count_by, range_with_len}
 use Rattle.htss_defs.specs.declared.mol.Atom.{Atom}
 use Rattle.htss_defs.specs.declared.mol.Bond.{Bond}

@@ -1,7 +1,8 @@
 -- The cost of a search for an embedding: the number of atoms of the molecule for each list of places for the first
 -- atoms of the query, one at least lacking, that keeps all tests between them. The ring flag of a bond counts: in a
 -- marked molecule these are the tests of an embedding (this project's own).
-use Rattle.std.specs.Prelude.{ℕ, zero, suc, ◌+◌, ◌-◌, List, [], ◌∷◌, ◌++◌, length, slice_get, slice_index, sum_by, max, Option, None, Some, Bool, true, false, not, ◌&&◌, ◌||◌, ◌==◌, leb, if◌then◌else◌}
+use Rattle.std.specs.Prelude.{ℕ, zero, suc, ◌+◌, ◌-◌, List, [], ◌∷◌, ◌++◌, length, slice_get, slice_index, sum_by, max}
+use Rattle.std.specs.Prelude.{Option, None, Some, Bool, true, false, not, ◌&&◌, ◌||◌, ◌==◌, leb, if◌then◌else◌}
 use Rattle.std.specs.List.{list_any, list_all, range_with_len}
 use Rattle.htss_defs.specs.declared.mol.Atom.{Atom}
 use Rattle.htss_defs.specs.declared.mol.Bond.{Bond}

@@ -1,5 +1,6 @@
 -- What an embedding of a query in a molecule is, and which is the least: textbook subgraph embedding.
-use Rattle.std.specs.Prelude.{◌≡◌, ◌≢◌, ◌⊎◌, ℕ, ◌-◌, ◌<◌, ◌≤◌, List, [], ◌∷◌, length, slice_get, slice_index, All, AllPairs, Some, IsTrue}
+use Rattle.std.specs.Prelude.{◌≡◌, ◌≢◌, ◌⊎◌, ℕ, ◌-◌, ◌<◌, ◌≤◌, List, [], ◌∷◌, length, slice_get, slice_index, All}
+use Rattle.std.specs.Prelude.{AllPairs, Some, IsTrue}
 use Rattle.htss_defs.specs.declared.mol.Atom.{Atom}
 use Rattle.htss_defs.specs.declared.mol.Bond.{Bond}
 use Rattle.htss_defs.specs.declared.query.QueryAtom.{QueryAtom}

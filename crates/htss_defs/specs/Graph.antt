@@ -25,7 +25,8 @@ AreApart earlier later = joins earlier later.first later.second ≡ false
 abbrev pub WalksWithout : Graph → ℕ → ℕ → ℕ → ℕ → Type 0
 WalksWithout g k x y zero = x ≡ y
 WalksWithout g k x y (suc n) =
-    (z : ℕ) × WalksWithout g k x z n × (j : ℕ) × (e : Ends) × (j ≢ k) × (slice_get g.bonds j ≡ Some e) × IsTrue (joins e z y)
+    (z : ℕ) × WalksWithout g k x z n × (j : ℕ) × (e : Ends) × (j ≢ k) × (slice_get g.bonds j ≡ Some e)
+    × IsTrue (joins e z y)
 
 -- bond k (counted from 0) is in a ring: its ends are joined by a walk of other bonds
 pub record IsRingBond (g : Graph) (k : ℕ) : Type 0 where

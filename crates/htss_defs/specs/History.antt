@@ -21,8 +21,10 @@ pub record Withdraws (history : List Event) (number target : ℕ) : Type 0 where
 
 -- every withdrawal names an earlier publication that no other withdrawal names
 pub record IsLegal (history : List Event) : Type 0 where
-  pub earlier : (number target : ℕ) → Withdraws history number target → (target < number) × (name : List ℕ) × (mol : Molecule) × Publishes history target name mol
-  pub once : (number other target : ℕ) → Withdraws history number target → Withdraws history other target → number ≡ other
+  pub earlier : (number target : ℕ) → Withdraws history number target → (target < number) × (name : List ℕ)
+      × (mol : Molecule) × Publishes history target name mol
+  pub once : (number other target : ℕ) → Withdraws history number target → Withdraws history other target
+      → number ≡ other
 
 -- the record of this number is published and not withdrawn
 pub record IsLive (history : List Event) (number : ℕ) (name : List ℕ) (mol : Molecule) : Type 0 where

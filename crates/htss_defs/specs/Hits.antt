@@ -21,4 +21,5 @@ numbers hits = map (λ hit. hit.number) hits
 pub record AreHits (q : QueryGraph) (history : List Event) (hits : List Hit) : Type 0 where
   pub rising : IsStrictlyIncreasing (numbers hits)
   pub each : All (IsHit q history) hits
-  pub all : (number : ℕ) (name : List ℕ) (mol : Molecule) (map : List ℕ) → IsLive history number name mol → IsEmbedding q mol map → Contains (numbers hits) number
+  pub all : (number : ℕ) (name : List ℕ) (mol : Molecule) (map : List ℕ) → IsLive history number name mol
+      → IsEmbedding q mol map → Contains (numbers hits) number

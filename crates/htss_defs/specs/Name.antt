@@ -1,4 +1,5 @@
--- What the name of a record is (CTfile Formats, "The Header Block", line 1; which bytes a name keeps is this project's own).
+-- What the name of a record is (CTfile Formats, "The Header Block", line 1; which bytes a name keeps is this project's
+-- own).
 use Rattle.std.specs.Prelude.{◌≢◌, ℕ, ◌≤◌, ◌-◌, List, length, All, Some, slice_get}
 
 -- a byte of printable ASCII, the space among them

@@ -1,6 +1,7 @@
 -- The need of an atom of a query: what the codes of an atom of a molecule have to reach, so that it may stand there
 -- (this project's own).
-use Rattle.std.specs.Prelude.{ℕ, ◌-◌, ◌<◌, ◌≤◌, [], ◌∷◌, leb, slice_index, slice_index_or, if◌then◌else◌, Bool, true, not, ◌==◌, ◌&&◌, ◌||◌, IsTrue, pos}
+use Rattle.std.specs.Prelude.{ℕ, ◌-◌, ◌<◌, ◌≤◌, [], ◌∷◌, leb, slice_index, slice_index_or, if◌then◌else◌, Bool, true}
+use Rattle.std.specs.Prelude.{not, ◌==◌, ◌&&◌, ◌||◌, IsTrue, pos}
 use Rattle.std.specs.List.{count_by, list_all, range_with_len}
 use Rattle.htss_defs.specs.declared.query.AtomTest.{AtomTest}
 use Rattle.htss_defs.specs.declared.query.AtomTest.TheVariants.{Any}

@@ -25,7 +25,8 @@ pub record IsScreenedRecord (q : QueryGraph) (history : List Event) (one : Numbe
 pub record AreScreened (q : QueryGraph) (history : List Event) (records : List Numbered) : Type 0 where
   pub rising : IsStrictlyIncreasing (map (λ one. one.number) records)
   pub each : All (IsScreenedRecord q history) records
-  pub all : (number : ℕ) (name : List ℕ) (mol : Molecule) → IsLive history number name mol → IsScreened q mol → Contains (map (λ one. one.number) records) number
+  pub all : (number : ℕ) (name : List ℕ) (mol : Molecule) → IsLive history number name mol → IsScreened q mol
+      → Contains (map (λ one. one.number) records) number
 
 -- the work of a search of these records, and the atoms that it cannot do with less than
 abbrev pub work : QueryGraph → List Numbered → ℕ
@@ -38,8 +39,10 @@ pub data Reply : Type 0 where
   found : (hits : List Hit) → Reply
   over_budget : Reply
 
--- the hits, where the budget allows as many steps as the screened records have atoms; or that the work exceeds the budget
+-- the hits, where the budget allows as many steps as the screened records have atoms; or that the work exceeds the
+-- budget
 abbrev pub IsReply : QueryGraph → ℕ → List Event → Reply → Type 0
 IsReply q budget history (found hits) =
     AreHits q history hits × (records : List Numbered) × AreScreened q history records × (atoms_of records ≤ budget)
-IsReply q budget history over_budget = (records : List Numbered) × AreScreened q history records × (budget < work q records)
+IsReply q budget history over_budget = (records : List Numbered) × AreScreened q history records
+    × (budget < work q records)

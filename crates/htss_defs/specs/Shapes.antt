@@ -22,8 +22,10 @@ AreWithinBefore shape Loaders = Unit {0}
 AreWithinBefore shape Searchers = IsWithin shape Loaders
 AreWithinBefore shape Pages = IsWithin shape Loaders × IsWithin shape Searchers
 AreWithinBefore shape Room = IsWithin shape Loaders × IsWithin shape Searchers × IsWithin shape Pages
-AreWithinBefore shape Log = IsWithin shape Loaders × IsWithin shape Searchers × IsWithin shape Pages × IsWithin shape Room
-AreWithinBefore shape Chain = IsWithin shape Loaders × IsWithin shape Searchers × IsWithin shape Pages × IsWithin shape Room × IsWithin shape Log
+AreWithinBefore shape Log = IsWithin shape Loaders × IsWithin shape Searchers × IsWithin shape Pages
+    × IsWithin shape Room
+AreWithinBefore shape Chain = IsWithin shape Loaders × IsWithin shape Searchers × IsWithin shape Pages
+    × IsWithin shape Room × IsWithin shape Log
 
 -- the first part, in their order, that is out of its limits
 pub record IsFirstOutside (shape : Shape) (field : Field) : Type 0 where

@@ -31,8 +31,8 @@ pub struct QueryAtom {
     pub mass: u16,
 }
 
-/// A bond of a query: the type is 1 to 8, the topology 0 (either), 1 (ring) or 2 (chain). The flag says whether it is a ring bond
-/// of the query.
+/// A bond of a query: the type is 1 to 8, the topology 0 (either), 1 (ring) or 2 (chain). The flag says whether it is a
+/// ring bond of the query.
 #[derive(Clone, Copy, Debug, PartialEq, Eq)]
 pub struct QueryBond {
     pub first: u16,
@@ -54,7 +54,8 @@ impl QueryBond {
     }
 }
 
-/// A query of 1 to 64 atoms and at most 999 bonds, each with its flag set where it is a ring bond: contracts see its two lists.
+/// A query of 1 to 64 atoms and at most 999 bonds, each with its flag set where it is a ring bond: contracts see its
+/// two lists.
 #[derive(Debug, Drop)]
 pub struct Query {
     atoms: Vec<QueryAtom>,

@@ -2,8 +2,8 @@
 ghost use Rattle.std.specs.Prelude.{◌≡◌, ◌↔◌, IfSome, IfNone};
 ghost use Rattle.htss_defs.specs.Shapes.{IsFirstOutside, IsShape};
 
-/// How large a board is: 1 to 16 loaders and searchers each, 16 to 4,194,304 pages, 10 to 16,777,216 words of room for each
-/// loader, 1 to 1,048,576 log entries, and 2 to 65,535 pages of one chain.
+/// How large a board is: 1 to 16 loaders and searchers each, 16 to 4,194,304 pages, 10 to 16,777,216 words of room for
+/// each loader, 1 to 1,048,576 log entries, and 2 to 65,535 pages of one chain.
 #[derive(Clone, Copy, Debug, PartialEq, Eq)]
 pub struct Shape {
     pub loaders: u8,

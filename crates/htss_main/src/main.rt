@@ -1,6 +1,7 @@
 //! `htss`: a compound registry that is searched by substructure. This program finds the records of an SDfile into which
-//! a query molecule embeds, checks the records of an SDfile, tells the codes of the atoms of a molfile, makes SDfiles of generated
-//! records, and runs scripts that load, withdraw and search records. All that it does is done by the top call (`htss_top`).
+//! a query molecule embeds, checks the records of an SDfile, tells the codes of the atoms of a molfile, makes SDfiles
+//! of generated records, and runs scripts that load, withdraw and search records. All that it does is done by the top
+//! call (`htss_top`).
 #![tactic(auto)]
 
 use htss_top::exit;

@@ -1,5 +1,5 @@
-//! The top call of `htss`: all that the program does, over any shelf of files, any sink for its text and any runtime, and the exit
-//! status of a process that does it.
+//! The top call of `htss`: all that the program does, over any shelf of files, any sink for its text and any runtime,
+//! and the exit status of a process that does it.
 #![tactic(auto)]
 
 #[cfg(test)]

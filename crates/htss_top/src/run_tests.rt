@@ -496,7 +496,8 @@ fn around_rows(report: &str) -> Option<(&str, &str, &str)> {
     Some((before, rows, after))
 }
 
-// The report is the wanted one, and as many rows were loaded as there are hits, or more, and no more than there are atoms.
+// The report is the wanted one, and as many rows were loaded as there are hits, or more, and no more than there are
+// atoms.
 fn tells_of_made<R: Abort>(rt: &R, report: &str, wanted: &str) -> Result<(), Fail> {
     let (Some(told), Some(all)) = (around_rows(report), around_rows(wanted)) else {
         return Err("no rows in a report".into());

@@ -16,8 +16,8 @@ use std::process::ExitCode;
 use std::sync::Wait;
 use std::thread::Threads;
 
-/// Does what the words after the program's name say (`htss`), and answers an exit status of which the same holds. Words that could not be read, as
-/// they are not UTF-8, are no command line, unless memory ran out.
+/// Does what the words after the program's name say (`htss`), and answers an exit status of which the same holds. Words
+/// that could not be read, as they are not UTF-8, are no command line, unless memory ran out.
 pub fn exit<R: Threads + Wait + Sync, F: Shelf, K: Sink>(
     rt: &R,
     alloc: Global,
@@ -31,7 +31,8 @@ pub fn exit<R: Threads + Wait + Sync, F: Shelf, K: Sink>(
     ensures completes { IfOk words (λ words. Completes (task_of (map string_bytes words.items))
         (seen F.told F.absent F.faults shelf.old) (seen F.told F.absent F.faults shelf.new)
         (seen_out K.written K.faults out.old) (seen_out K.written K.faults out.new) (exit_status result)) }
-    ensures unread { IfErr words (λ _. AreUnread (seen_out K.written K.faults out.old) (seen_out K.written K.faults out.new) (exit_status result)) }
+    ensures unread { IfErr words (λ _. AreUnread (seen_out K.written K.faults out.old)
+        (seen_out K.written K.faults out.new) (exit_status result)) }
     ensures untouched { IfErr words (λ _. shelf.new ≡ shelf.old) }
 {
     let status = match words {

@@ -16,13 +16,13 @@ use std::sync::Wait;
 use std::thread::Threads;
 use tool_commands::do_command;
 
-/// Does what the words after the program's name say, and answers the status: 0, or 1 where an audited report differs, 2 where
-/// they are no command line, 3 where a script is at fault, 4 where a read failed, 5 where a write failed, 6 where memory ran out,
-/// 7 where a file is absent, 8 where it is too large. At status 0 of `run`, whose callers work in threads of the runtime, it also
-/// answers the board that was closed: what its searchers have read for each search are records that the search screened, and
-/// all of them where it has hits. Of a command, on a shelf that tells what files it has: where the files that it comes to read
-/// are there and within the limit, a script is in the grammar, and no count of faults rises, the status is 0, or 1 of an audit,
-/// or memory ran out.
+/// Does what the words after the program's name say, and answers the status: 0, or 1 where an audited report differs, 2
+/// where they are no command line, 3 where a script is at fault, 4 where a read failed, 5 where a write failed, 6 where
+/// memory ran out, 7 where a file is absent, 8 where it is too large. At status 0 of `run`, whose callers work in
+/// threads of the runtime, it also answers the board that was closed: what its searchers have read for each search are
+/// records that the search screened, and all of them where it has hits. Of a command, on a shelf that tells what files
+/// it has: where the files that it comes to read are there and within the limit, a script is in the grammar, and no
+/// count of faults rises, the status is 0, or 1 of an audit, or memory ran out.
 pub fn htss<R: Threads + Wait + Sync, F: Shelf, K: Sink>(
     rt: &R,
     alloc: Global,

@@ -18,7 +18,8 @@ pub record AreRows (row next : ℕ → ℕ) : Type 0 where
 abbrev pub AreApart : (ℕ → ℕ) → Type 0
 AreApart row = (a b : ℕ) → a < 14 → b < 14 → row a ≡ row b → a ≡ b
 
--- the first `done` rows: `count` codes that differ, and for code j as many entries as `held j`. Where rows differ, entries do
+-- the first `done` rows: `count` codes that differ, and for code j as many entries as `held j`. Where rows differ,
+-- entries do
 pub record AreGroups (row next : ℕ → ℕ) (done count : ℕ) (code held : ℕ → ℕ) (entry : ℕ → ℕ → ℕ) : Type 0 where
   pub few : count ≤ done
   pub set : (j : ℕ) → j < count → code j ≢ 0

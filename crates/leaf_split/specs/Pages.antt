@@ -1,6 +1,7 @@
--- The pages that take a full leaf's place. Page 8b is the inner page of rank b; the leaves of its seven codes are the pages behind it
--- (this project's own).
-use Rattle.std.specs.Prelude.{◌≡◌, ℕ, zero, suc, ◌+◌, ◌*◌, ◌-◌, ◌/◌, ◌%◌, ◌<◌, ◌≤◌, ◌==◌, true, false, ltb, List, [], ◌∷◌, ◌++◌, length, if◌then◌else◌}
+-- The pages that take a full leaf's place. Page 8b is the inner page of rank b; the leaves of its seven codes are the
+-- pages behind it (this project's own).
+use Rattle.std.specs.Prelude.{◌≡◌, ℕ, zero, suc, ◌+◌, ◌*◌, ◌-◌, ◌/◌, ◌%◌, ◌<◌, ◌≤◌, ◌==◌, true, false, ltb, List, []}
+use Rattle.std.specs.Prelude.{◌∷◌, ◌++◌, length, if◌then◌else◌}
 use mathlib.Core.Option.{some}
 use lib.ListN.{get_elem?}
 use Rattle.board_core.specs.declared.tree.Way.TheVariants.{More, Branch}
@@ -16,14 +17,16 @@ abbrev pub inner_word : ℕ → ℕ → (ℕ → ℕ) → (ℕ → ℕ) → ℕ 
 inner_word depth count code number b i =
     if i == 0 then 2 + 4 * depth + 32 * b else
     if i == 1 then (if ltb (7 * (b + 1)) count then number (8 * (b + 1)) else 0) else
-    if ltb (7 * b + (i - 2) / 2) count then (if i % 2 == 0 then code (7 * b + (i - 2) / 2) else number (8 * b + 1 + (i - 2) / 2)) else 0
+    if ltb (7 * b + (i - 2) / 2) count then
+    (if i % 2 == 0 then code (7 * b + (i - 2) / 2) else number (8 * b + 1 + (i - 2) / 2)) else 0
 
 abbrev pub leaf_word : ℕ → (ℕ → ℕ → ℕ) → ℕ → ℕ → ℕ
 leaf_word depth entry j i = if i == 0 then 5 + 4 * depth else if i == 1 then 0 else entry j (i - 2)
 
 -- word i of page t
 abbrev pub word_of : ℕ → ℕ → (ℕ → ℕ) → (ℕ → ℕ → ℕ) → (ℕ → ℕ) → ℕ → ℕ → ℕ
-word_of depth count code entry number t i = if t % 8 == 0 then inner_word depth count code number (t / 8) i else leaf_word depth entry (7 * (t / 8) + (t % 8 - 1)) i
+word_of depth count code entry number t i = if t % 8 == 0 then inner_word depth count code number
+    (t / 8) i else leaf_word depth entry (7 * (t / 8) + (t % 8 - 1)) i
 
 -- the same, as facts
 pub record IsInner (word : ℕ → ℕ) (depth count : ℕ) (code number : ℕ → ℕ) (b : ℕ) : Type 0 where
@@ -46,10 +49,12 @@ pub record ArePages (page : ℕ → ℕ → ℕ) (depth count : ℕ) (code numbe
 -- where the pages will stand, below the link k of page q
 abbrev pub inner_place : List ℕ → (ℕ → ℕ) → ℕ → ℕ → ℕ → Place
 inner_place path number q k zero = record { path = path; rank = 0; leaf = false; from = q; way = Branch k }
-inner_place path number q k (suc b) = record { path = path; rank = suc b; leaf = false; from = number (8 * b); way = More }
+inner_place path number q k (suc b) =
+    record { path = path; rank = suc b; leaf = false; from = number (8 * b); way = More }
 
 abbrev pub leaf_place : List ℕ → (ℕ → ℕ) → (ℕ → ℕ) → ℕ → ℕ → Place
-leaf_place path code number b s = record { path = path ++ code (7 * b + s) ∷ []; rank = 0; leaf = true; from = number (8 * b); way = Branch s }
+leaf_place path code number b s =
+    record { path = path ++ code (7 * b + s) ∷ []; rank = 0; leaf = true; from = number (8 * b); way = Branch s }
 
 pub record ArePlaces (v : ℕ → Place) (path : List ℕ) (count : ℕ) (code number : ℕ → ℕ) (q k : ℕ) : Type 0 where
   pub inner : (b : ℕ) → 7 * b < count → v (number (8 * b)) ≡ inner_place path number q k b

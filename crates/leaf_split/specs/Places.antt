@@ -4,7 +4,8 @@ use Rattle.board_core.specs.ClassTree.{Place}
 use Rattle.leaf_split.specs.Pages.{inner_place, leaf_place}
 
 abbrev pub place_at : List ℕ → (ℕ → ℕ) → (ℕ → ℕ) → ℕ → ℕ → ℕ → Place
-place_at path code number q k t = if t % 8 == 0 then inner_place path number q k (t / 8) else leaf_place path code number (t / 8) (t % 8 - 1)
+place_at path code number q k t = if t % 8 == 0 then inner_place path number q k
+    (t / 8) else leaf_place path code number (t / 8) (t % 8 - 1)
 
 -- the page at t and those behind it stand where f says, all others where they stood
 abbrev pub settled : (ℕ → Place) → (ℕ → Place) → ℕ → List ℕ → ℕ → Place
@@ -13,4 +14,5 @@ settled f old t (n ∷ ns) p = if p == n then f t else settled f old (t + 1) ns 
 
 -- numbers that differ
 pub record AreApart (numbers : List ℕ) : Type 0 where
-  pub apart : (t u : ℕ) → t < length numbers → u < length numbers → slice_index numbers t ≡ slice_index numbers u → t ≡ u
+  pub apart : (t u : ℕ) → t < length numbers → u < length numbers → slice_index numbers t ≡ slice_index numbers u
+      → t ≡ u

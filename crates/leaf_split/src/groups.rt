@@ -18,7 +18,8 @@ pub struct Groups {
 /// Puts the 14 rows of a leaf into groups by their next code.
 pub fn group(rows: &[u64; 14], nexts: &[u64; 14]) -> Groups
     requires { AreRows (slice_index rows.now) (slice_index nexts.now) }
-    ensures { AreGroups (slice_index rows.now) (slice_index nexts.now) 14 result.count (slice_index result.codes) (slice_index result.held) (entry_of result.entries) }
+    ensures { AreGroups (slice_index rows.now) (slice_index nexts.now) 14 result.count (slice_index result.codes)
+        (slice_index result.held) (entry_of result.entries) }
 {
     let mut count = 0;
     let mut codes = [0; 14];

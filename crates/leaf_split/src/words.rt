@@ -14,14 +14,16 @@ impl Groups {
         self.count + (self.count + 6) / 7
     }
 
-    /// The word at this place of a page that takes the place of a leaf of this depth. `numbers` are the numbers of the pages.
+    /// The word at this place of a page that takes the place of a leaf of this depth. `numbers` are the numbers of the
+    /// pages.
     pub fn word(&self, depth: u64, numbers: &[u32], page: usize, place: usize) -> u64
         requires few { self.now.count ≤ 14 }
         requires depth { depth < 5 }
         requires numbers { pages_of self.now.count ≤ length numbers.now }
         requires page { page < pages_of self.now.count }
         requires place { place < 16 }
-        ensures { result ≡ word_of depth self.now.count (slice_index self.now.codes) (entry_of self.now.entries) (slice_index numbers.now) page place }
+        ensures { result ≡ word_of depth self.now.count (slice_index self.now.codes) (entry_of self.now.entries)
+            (slice_index numbers.now) page place }
     {
         if page % 8 == 0 {
             self.inner_word(depth, numbers, page / 8, place)
@@ -37,7 +39,8 @@ impl Groups {
         requires numbers { pages_of self.now.count ≤ length numbers.now }
         requires rank { 7 * rank < self.now.count }
         requires place { place < 16 }
-        ensures { result ≡ inner_word depth self.now.count (slice_index self.now.codes) (slice_index numbers.now) rank place }
+        ensures { result ≡ inner_word depth self.now.count (slice_index self.now.codes)
+            (slice_index numbers.now) rank place }
     {
         if place == 0 {
             return 2 + 4 * depth + 32 * rank as u64;

@@ -4,7 +4,8 @@ use Rattle.htss_defs.specs.declared.shape.Shape.{Shape}
 use Rattle.htss_defs.specs.Molecule.{Molecule}
 use Rattle.board_core.specs.declared.account.Account.{Account}
 use Rattle.board_core.specs.declared.entry.Entry.{Entry}
-use Rattle.board_core.specs.declared.entry.Entry.TheVariants.{DataFull as Full, NoPage as PageWanted, ChainFull as ChainWasFull}
+use Rattle.board_core.specs.declared.entry.Entry.TheVariants.{DataFull as Full, NoPage as PageWanted}
+use Rattle.board_core.specs.declared.entry.Entry.TheVariants.{ChainFull as ChainWasFull}
 use Rattle.board_core.specs.declared.room.Row.{Row}
 use Rattle.board_core.specs.Blocks.{first_of}
 use Rattle.board_core.specs.RoomRule.{region_of}
@@ -47,8 +48,8 @@ after_block a s = record a {
 abbrev pub rows_of : ℕ → ℕ → List Row
 rows_of block count = first_of (λ i. record { block = block; atom = i + 1 }) count
 
--- from a to b, so many rows of a block were begun, so many of them placed, and these entries added. Besides, own pages and what was
--- loaded may have changed, and no more
+-- from a to b, so many rows of a block were begun, so many of them placed, and these entries added. Besides, own pages
+-- and what was loaded may have changed, and no more
 pub record HasRows (a b : Account) (block begun placed : ℕ) (es : List Entry) : Type 0 where
   pub who : b.who ≡ a.who
   pub log : b.log ≡ a.log
@@ -94,7 +95,8 @@ HasLeft k c d s e = WasStopped k (with_account c (after_block c.account s)) d s.
 
 -- why the record was not staged, and what that leaves
 abbrev pub IsRefused : Shape → Seated → Seated → Staging → StageError → Type 0
-IsRefused k c d s (DataFull left need) = IsFull k c.account s left need × (d ≡ with_account c (after_answer c.account (Full left need ∷ [])))
+IsRefused k c d s (DataFull left need) = IsFull k c.account s left need
+    × (d ≡ with_account c (after_answer c.account (Full left need ∷ [])))
 IsRefused k c d s NoPage = HasLeft k c d s PageRefused
 IsRefused k c d s (ChainFull pages) = HasLeft k c d s (ChainRefused pages)
 

@@ -25,7 +25,8 @@ pub(crate) fn insert_rows(
     requires stocked { IsStocked caller.old }
     requires sealed { IsSealed caller.old.account.room.sealed block }
     requires place { IsInTable board.now.shape block }
-    requires atoms { atoms ≤ atoms_in (words_of board.now.shape caller.old.account.who caller.old.account.room.used block 0) }
+    requires atoms { atoms
+        ≤ atoms_in (words_of board.now.shape caller.old.account.who caller.old.account.room.used block 0) }
     requires fresh { (atom : ℕ) → In (record { block = block; atom = atom }) caller.old.account.tree.placed → ⊥ }
     ensures of { IsOf board.now caller.new }
     ensures loader { IsLoader caller.new }

@@ -11,7 +11,8 @@ ghost use Rattle.block_words.specs.Writing.{size_of, written};
 ghost use Rattle.board.specs.Seated.{IsOf, IsLoader, with_account};
 ghost use Rattle.board.specs.Staging.{Staging, IsWritten, IsStaged, StayStaged};
 ghost use Rattle.class_tree.specs.Inserting.{IsStocked};
-ghost use Rattle.loader.specs.Stages.{next_block, left_in, staging, after_words, after_block, HasStaged, HasRoomBut, IsRefused, stage_error};
+ghost use Rattle.loader.specs.Stages.{next_block, left_in, staging, after_words, after_block, HasStaged, HasRoomBut};
+ghost use Rattle.loader.specs.Stages.{IsRefused, stage_error};
 
 use crate::rows::insert_rows;
 use block_words::BlockWriter;
@@ -43,11 +44,12 @@ impl From<InsertError> for StageError {
     }
 }
 
-/// Stages a record with marked rings: writes its block into the loader's region, past what it has stored, and inserts its rows in the
-/// order of its atoms. It takes no memory, and waits for nobody.
+/// Stages a record with marked rings: writes its block into the loader's region, past what it has stored, and inserts
+/// its rows in the order of its atoms. It takes no memory, and waits for nobody.
 ///
-/// `DataFull` comes exactly where fewer words are left than the block needs; then nothing is stored. The other two come from the row
-/// whose insertion was refused. The block's words are then used up, and the rows before it stay placed; no event shows them.
+/// `DataFull` comes exactly where fewer words are left than the block needs; then nothing is stored. The other two come
+/// from the row whose insertion was refused. The block's words are then used up, and the rows before it stay placed; no
+/// event shows them.
 pub fn stage(
     board: &Board,
     caller: &mut Caller,
@@ -65,11 +67,15 @@ pub fn stage(
     ensures staged { IfOk result (λ s. s ≡ staging board.now.shape caller.old.account name.now mol.now) }
     ensures fresh { IfOk result (λ s. IsStaged board.now.shape caller.new.account s) }
     ensures added { IfOk result (λ s. HasStaged caller.old.account caller.new.account s) }
-    ensures room { IfOk result (λ s. length caller.old.account.room.used + size_of name.now mol.now ≤ board.now.shape.room) }
-    ensures refused { IfErr result (λ e. IsRefused board.now.shape caller.old caller.new (staging board.now.shape caller.old.account name.now mol.now) e) }
-    ensures had_room { IfErr result (λ e. HasRoomBut board.now.shape caller.old.account (staging board.now.shape caller.old.account name.now mol.now) e) }
+    ensures room { IfOk result (λ s. length caller.old.account.room.used + size_of name.now mol.now
+        ≤ board.now.shape.room) }
+    ensures refused { IfErr result (λ e. IsRefused board.now.shape caller.old caller.new
+        (staging board.now.shape caller.old.account name.now mol.now) e) }
+    ensures had_room { IfErr result (λ e. HasRoomBut board.now.shape caller.old.account
+        (staging board.now.shape caller.old.account name.now mol.now) e) }
     ensures others { StayStaged board.now.shape caller.old.account caller.new.account }
-    ensures apart { (s : Staging) → IsStaged board.now.shape caller.old.account s → s.block ≢ next_block board.now.shape caller.old.account }
+    ensures apart { (s : Staging) → IsStaged board.now.shape caller.old.account s
+        → s.block ≢ next_block board.now.shape caller.old.account }
 {
     let mut coder = Coder::new();
     stage_with(board, caller, &mut coder, mol, name)
@@ -94,11 +100,15 @@ pub fn stage_with(
     ensures staged { IfOk result (λ s. s ≡ staging board.now.shape caller.old.account name.now mol.now) }
     ensures fresh { IfOk result (λ s. IsStaged board.now.shape caller.new.account s) }
     ensures added { IfOk result (λ s. HasStaged caller.old.account caller.new.account s) }
-    ensures room { IfOk result (λ s. length caller.old.account.room.used + size_of name.now mol.now ≤ board.now.shape.room) }
-    ensures refused { IfErr result (λ e. IsRefused board.now.shape caller.old caller.new (staging board.now.shape caller.old.account name.now mol.now) e) }
-    ensures had_room { IfErr result (λ e. HasRoomBut board.now.shape caller.old.account (staging board.now.shape caller.old.account name.now mol.now) e) }
+    ensures room { IfOk result (λ s. length caller.old.account.room.used + size_of name.now mol.now
+        ≤ board.now.shape.room) }
+    ensures refused { IfErr result (λ e. IsRefused board.now.shape caller.old caller.new
+        (staging board.now.shape caller.old.account name.now mol.now) e) }
+    ensures had_room { IfErr result (λ e. HasRoomBut board.now.shape caller.old.account
+        (staging board.now.shape caller.old.account name.now mol.now) e) }
     ensures others { StayStaged board.now.shape caller.old.account caller.new.account }
-    ensures apart { (s : Staging) → IsStaged board.now.shape caller.old.account s → s.block ≢ next_block board.now.shape caller.old.account }
+    ensures apart { (s : Staging) → IsStaged board.now.shape caller.old.account s
+        → s.block ≢ next_block board.now.shape caller.old.account }
 {
     coder.load(mol);
     let mut writer = BlockWriter::new(coder, name, mol);
@@ -144,14 +154,18 @@ fn note_full(board: &Board, caller: &mut Caller, left: u32, need: u32)
 fn store_block(board: &Board, caller: &mut Caller, writer: &mut BlockWriter) -> u64
     requires fits { IsOf board.now caller.old }
     requires loader { IsLoader caller.old }
-    requires room { length caller.old.account.room.used + size_of writer.old.name writer.old.mol ≤ board.now.shape.room }
+    requires room { length caller.old.account.room.used + size_of writer.old.name writer.old.mol
+        ≤ board.now.shape.room }
     ensures place { result ≡ next_block board.now.shape caller.old.account }
-    ensures after { caller.new ≡ with_account caller.old (after_block caller.old.account (staging board.now.shape caller.old.account writer.old.name writer.old.mol)) }
+    ensures after { caller.new ≡ with_account caller.old
+        (after_block caller.old.account (staging board.now.shape caller.old.account writer.old.name writer.old.mol)) }
     ensures of { IsOf board.now caller.new }
     ensures still { IsLoader caller.new }
     ensures rows { Each (λ r. IsSealed caller.old.account.room.sealed r.block) caller.old.account.tree.placed }
-    ensures before { Each (λ t. t.place < next_block board.now.shape caller.old.account) caller.old.account.room.sealed }
-    ensures written { IsWritten board.now.shape caller.new.account (staging board.now.shape caller.old.account writer.old.name writer.old.mol) }
+    ensures before { Each (λ t. t.place
+        < next_block board.now.shape caller.old.account) caller.old.account.room.sealed }
+    ensures written { IsWritten board.now.shape caller.new.account
+        (staging board.now.shape caller.old.account writer.old.name writer.old.mol) }
 {
     let size = writer.size();
     let place = next_place(board, caller);
@@ -168,7 +182,8 @@ fn store_front(board: &Board, caller: &mut Caller, writer: &mut BlockWriter, cou
     requires some { 0 < count }
     requires within { count < size_of writer.old.name writer.old.mol }
     requires room { length caller.old.account.room.used + count ≤ board.now.shape.room }
-    ensures after { caller.new ≡ with_account caller.old (after_words caller.old.account (first_of (written writer.old.name writer.old.mol) count)) }
+    ensures after { caller.new ≡ with_account caller.old
+        (after_words caller.old.account (first_of (written writer.old.name writer.old.mol) count)) }
     ensures room { IsKnownRoom board.now.shape caller.old.account }
     ensures same { writer.new ≡ writer.old }
 {

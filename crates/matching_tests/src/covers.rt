@@ -180,8 +180,8 @@ fn needs_of_atoms(rt: HostRuntime) -> Result<(), Fail> {
     Ok(())
 }
 
-// A query, its pivot, and whether an atom of ethanol covers it. Ethanol has no sulphur, and its carbons are in no ring; it has
-// two carbons that are bonded.
+// A query, its pivot, and whether an atom of ethanol covers it. Ethanol has no sulphur, and its carbons are in no ring;
+// it has two carbons that are bonded.
 const PIVOTS: &[(Asked, u16, bool)] = &[
     (CARBON_OXYGEN, 1, true),
     (STAR, 1, false),

@@ -88,8 +88,8 @@ fn finds_the_least_embedding(rt: HostRuntime) -> Result<(), Fail> {
     Ok(())
 }
 
-// A budget, what is found in ethanol and where, and the most that is left of the budget. The cost is 9: for no place, for 1 and
-// for 2.
+// A budget, what is found in ethanol and where, and the most that is left of the budget. The cost is 9: for no place,
+// for 1 and for 2.
 const BUDGETS: &[(u64, Found, &[u16], u64)] = &[
     (9, Found::Yes, &[2, 3], 6),
     (2, Found::Spent, &[], 0),
@@ -123,7 +123,8 @@ fn stops_where_the_budget_is_spent(rt: HostRuntime) -> Result<(), Fail> {
     Ok(())
 }
 
-// Whether one matcher finds carbon and oxygen in ethanol, then none in propane, and then has too little left for ethanol.
+// Whether one matcher finds carbon and oxygen in ethanol, then none in propane, and then has too little left for
+// ethanol.
 fn asks_in_turn(alloc: Global) -> Result<bool, Fail> {
     let ethanol = molecule_of(alloc, &ETHANOL)?;
     let propane = molecule_of(alloc, &PROPANE)?;

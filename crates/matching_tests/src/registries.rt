@@ -85,7 +85,8 @@ fn takes_and_refuses_events(rt: HostRuntime) -> Result<(), Fail> {
     Ok(())
 }
 
-// Ethanol, ether, the withdrawal of ethanol; then a chain that is not screened for C-O, and one that is but has no single bond.
+// Ethanol, ether, the withdrawal of ethanol; then a chain that is not screened for C-O, and one that is but has no
+// single bond.
 const HISTORY: &[(Step, Result<u32, PlainError>)] = &[
     (Step::Publish(b"ethanol", ETHANOL), Ok(1)),
     (Step::Publish(b"ether", ETHER), Ok(2)),

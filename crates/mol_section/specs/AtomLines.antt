@@ -1,5 +1,6 @@
 -- What an atom line says, and the rows of symbols that the reader searches.
-use Rattle.std.specs.Prelude.{◌≡◌, ◌==◌, ◌||◌, ◌≤◌, ◌≤ℤ◌, ℕ, ℤ, pos, negsuc, List, position, Option, Some, None, if◌then◌else◌}
+use Rattle.std.specs.Prelude.{◌≡◌, ◌==◌, ◌||◌, ◌≤◌, ◌≤ℤ◌, ℕ, ℤ, pos, negsuc, List, position, Option, Some, None}
+use Rattle.std.specs.Prelude.{if◌then◌else◌}
 use Rattle.std.specs.Str.{bytes_eq}
 use Rattle.htss_defs.specs.declared.elements.TheConstants.{SYMBOLS}
 use Rattle.htss_defs.specs.declared.mol.Atom.{Atom}
@@ -29,7 +30,8 @@ pub record SaysAtom (line : List ℕ) (atom : Atom) : Type 0 where
   pub charge : charge_value (field 37 39 line) ≡ Some atom.charge
   pub valid : IsAtom atom
 
--- an atom as its line and the properties give it; its element has at least this number, 0 where its symbol may be none of the table
+-- an atom as its line and the properties give it; its element has at least this number, 0 where its symbol may be none
+-- of the table
 pub record IsAtomFrom (least : ℕ) (a : Atom) : Type 0 where
   pub element : (least ≤ a.element) × (a.element ≤ 118)
   pub charge : (negsuc 14 ≤ℤ a.charge) × (a.charge ≤ℤ pos 15)

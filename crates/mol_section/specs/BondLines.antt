@@ -15,9 +15,16 @@ is_taken bonds ends = list_any (λ other. joins other ends.first ends.second) bo
 
 -- the refusal of a bond line, where the bonds before it are those of the graph
 unfoldable pub graph_refusal : Graph → List ℕ → Option ℕ
-graph_refusal graph line = first_code (
-    (is_some (number_of (field 1 3 line)) && is_some (number_of (field 4 6 line)) && is_some (number_of (field 7 9 line)), 7)
-    ∷ (is_place graph.atoms (bond_first line) && is_place graph.atoms (bond_second line) && not (bond_first line == bond_second line), 8)
+graph_refusal graph line = first_code ((
+  is_some (number_of (field 1 3 line)) && is_some (number_of (field 4 6 line))
+      && is_some (number_of (field 7 9 line)),
+  7,
+)
+    ∷ (
+      is_place graph.atoms (bond_first line) && is_place graph.atoms (bond_second line)
+          && not (bond_first line == bond_second line),
+      8,
+    )
     ∷ (nat_le 1 (bond_kind line) && nat_le (bond_kind line) 4, 9)
     ∷ (not (is_taken graph.bonds (ends_of line)), 10)
     ∷ [])

@@ -1,7 +1,8 @@
--- Columns, fields and words of a line.
--- (CTfile Formats, "The Ctab Block" for fields by columns. That a column past the end of a line is a space, and that property lines are read
--- by words, is this project's own.)
-use Rattle.std.specs.Prelude.{ℕ, ◌+◌, ◌-◌, ◌*◌, ℤ, pos, neg_ℤ, List, [], ◌∷◌, ◌++◌, length, take, drop, replicate, reverse, filter, fold, Option, None, Some, option_and_then, Bool, not, ◌&&◌, ◌==◌, nat_le, nat_eq, if◌then◌else◌}
+-- Columns, fields and words of a line. (CTfile Formats, "The Ctab Block" for fields by columns. That a column past the
+-- end of a line is a space, and that property lines are read by words, is this project's own.)
+use Rattle.std.specs.Prelude.{ℕ, ◌+◌, ◌-◌, ◌*◌, ℤ, pos, neg_ℤ, List, [], ◌∷◌, ◌++◌, length, take, drop, replicate}
+use Rattle.std.specs.Prelude.{reverse, filter, fold, Option, None, Some, option_and_then, Bool, not, ◌&&◌, ◌==◌, nat_le}
+use Rattle.std.specs.Prelude.{nat_eq, if◌then◌else◌}
 use Rattle.std.specs.List.{list_all, slice_split, starts_with}
 
 -- the columns from the first to the last, counted from 1
@@ -32,7 +33,9 @@ value_of digits = fold (λ n digit. 10 * n + (digit - 48)) 0 digits
 
 -- the value of a count field: blank is 0, else 1 to 3 digits
 unfoldable pub count_of : List ℕ → Option ℕ
-count_of text = if length text == 0 then Some 0 else (if are_digits text && nat_le (length text) 3 then Some (value_of text) else None)
+count_of text =
+    if length text == 0 then Some 0 else
+    (if are_digits text && nat_le (length text) 3 then Some (value_of text) else None)
 
 -- the value of a number of 1 to 3 digits
 unfoldable pub number_of : List ℕ → Option ℕ

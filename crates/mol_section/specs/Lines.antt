@@ -1,5 +1,5 @@
--- The lines of bytes.
--- (CTfile Formats, "SDfiles": a section ends at a line $$$$. That a CR before the LF is no part of a line is this project's own.)
+-- The lines of bytes. (CTfile Formats, "SDfiles": a section ends at a line $$$$. That a CR before the LF is no part of
+-- a line is this project's own.)
 use Rattle.std.specs.Prelude.{ℕ, List, [], ◌∷◌, map, nat_eq, Bool, ◌==◌, if◌then◌else◌}
 use Rattle.std.specs.List.{starts_with}
 use lib.Chars.{codes}

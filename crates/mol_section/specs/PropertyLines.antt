@@ -1,11 +1,14 @@
 -- What a property line does to the atoms.
-use Rattle.std.specs.Prelude.{◌≡◌, nat_le, ℕ, ◌-◌, ℤ, pos, List, [], ◌∷◌, length, map, fold, Option, None, Some, option_and_then, unwrap_or, Bool, true, false, not, ◌||◌, ◌&&◌, slice_set, slice_index_or, if◌then◌else◌}
+use Rattle.std.specs.Prelude.{◌≡◌, nat_le, ℕ, ◌-◌, ℤ, pos, List, [], ◌∷◌, length, map, fold, Option, None, Some}
+use Rattle.std.specs.Prelude.{option_and_then, unwrap_or, Bool, true, false, not, ◌||◌, ◌&&◌, slice_set, slice_index_or}
+use Rattle.std.specs.Prelude.{if◌then◌else◌}
 use lib.Chars.{codes}
 use Rattle.htss_defs.specs.declared.mol.Atom.{Atom}
 use Rattle.mol_section.specs.declared.properties.Step.{Step}
 use Rattle.mol_section.specs.declared.properties.Step.TheVariants.{End, Refused, Next}
 use Rattle.mol_section.specs.Fields.{begins, number_of}
-use Rattle.mol_section.specs.SectionLines.{is_place, passes_next, property_refusal, line_entries, listed_charge, listed_mass, lists_charges, lists_masses}
+use Rattle.mol_section.specs.SectionLines.{is_place, passes_next, property_refusal, line_entries, listed_charge}
+use Rattle.mol_section.specs.SectionLines.{listed_mass, lists_charges, lists_masses}
 
 -- the number of entries, and the words after it
 unfoldable pub count_at : List (List ℕ) → Option (ℕ × List (List ℕ))
@@ -15,7 +18,8 @@ count_at (count ∷ words) = option_and_then (λ n. if nat_le n 8 then Some (n, 
 -- a place among so many atoms, and the words after it
 unfoldable pub place_at : ℕ → List (List ℕ) → Option (ℕ × List (List ℕ))
 place_at atoms [] = None
-place_at atoms (place ∷ words) = option_and_then (λ p. if is_place atoms p then Some (p, words) else None) (number_of place)
+place_at atoms (place ∷ words) = option_and_then (λ p. if is_place atoms p then Some (p, words) else None)
+    (number_of place)
 
 -- a value, and the words after it
 unfoldable pub value_at : {V : Type 0} → (List ℕ → Option V) → List (List ℕ) → Option (V × List (List ℕ))
@@ -55,10 +59,12 @@ unfoldable pub set_aside : Bool → List ℕ → List Atom → List Atom
 set_aside aside line atoms = if aside then atoms else (if sets_aside line then map no_charge atoms else atoms)
 
 unfoldable pub put_charges : List ℕ → List Atom → List Atom
-put_charges line atoms = fold put_charge atoms (entries_if (lists_charges line) (line_entries listed_charge (length atoms) line))
+put_charges line atoms =
+    fold put_charge atoms (entries_if (lists_charges line) (line_entries listed_charge (length atoms) line))
 
 unfoldable pub put_masses : List ℕ → List Atom → List Atom
-put_masses line atoms = fold put_mass atoms (entries_if (lists_masses line) (line_entries listed_mass (length atoms) line))
+put_masses line atoms =
+    fold put_mass atoms (entries_if (lists_masses line) (line_entries listed_mass (length atoms) line))
 
 -- the atoms after a property line
 abbrev pub with_property : Bool → List ℕ → List Atom → List Atom
@@ -82,6 +88,8 @@ next_state passing line aside atoms =
 -- what the line does
 abbrev pub IsStep : Bool → List ℕ → Bool → List Atom → List Atom → Step → Type 0
 IsStep passing line aside atoms now End = (is_end passing line ≡ true) × (now ≡ atoms)
-IsStep passing line aside atoms now Refused = (is_end passing line ≡ false) × (step_refusal (length atoms) passing line ≡ Some 11)
+IsStep passing line aside atoms now Refused = (is_end passing line ≡ false)
+    × (step_refusal (length atoms) passing line ≡ Some 11)
 IsStep passing line aside atoms now (Next passing_next aside_now) =
-    (is_end passing line ≡ false) × (step_refusal (length atoms) passing line ≡ None) × (next_state passing line aside atoms ≡ (passing_next, aside_now, now))
+    (is_end passing line ≡ false) × (step_refusal (length atoms) passing line ≡ None)
+    × (next_state passing line aside atoms ≡ (passing_next, aside_now, now))

@@ -1,7 +1,9 @@
--- What each line of a section is, and which are refused.
--- (CTfile Formats, "The Header Block", "The Counts Line", "The Atom Block", "The Bond Block", "The Atom List Block", "The Properties Block".
--- The refusals and their numbers are this project's own.)
-use Rattle.std.specs.Prelude.{ℕ, zero, suc, ◌+◌, ◌-◌, ℤ, pos, negsuc, List, [], ◌∷◌, ◌++◌, length, take, drop, map, replicate, slice_index_or, Option, None, Some, option_and_then, unwrap_or, Bool, true, false, not, is_some, int_le, ◌&&◌, ◌||◌, ◌==◌, nat_le, nat_lt, if◌then◌else◌}
+-- What each line of a section is, and which are refused. (CTfile Formats, "The Header Block", "The Counts Line", "The
+-- Atom Block", "The Bond Block", "The Atom List Block", "The Properties Block". The refusals and their numbers are this
+-- project's own.)
+use Rattle.std.specs.Prelude.{ℕ, zero, suc, ◌+◌, ◌-◌, ℤ, pos, negsuc, List, [], ◌∷◌, ◌++◌, length, take, drop, map}
+use Rattle.std.specs.Prelude.{replicate, slice_index_or, Option, None, Some, option_and_then, unwrap_or, Bool, true}
+use Rattle.std.specs.Prelude.{false, not, is_some, int_le, ◌&&◌, ◌||◌, ◌==◌, nat_le, nat_lt, if◌then◌else◌}
 use Rattle.std.specs.List.{list_any, position}
 use Rattle.std.specs.Str.{bytes_eq}
 use lib.Chars.{codes}
@@ -66,11 +68,13 @@ kinds_after false (line ∷ rest) =
 
 -- the kinds of the lines of the blocks, however many of them stand there
 abbrev pub block_kinds : List (List ℕ) → List Kind
-block_kinds lines = replicate 3 header ++ counts ∷ replicate (atom_count lines) atom ++ replicate (bond_count lines) bond ++ replicate (list_count lines) atom_list
+block_kinds lines = replicate 3 header ++ counts ∷ replicate (atom_count lines) atom
+    ++ replicate (bond_count lines) bond ++ replicate (list_count lines) atom_list
 
 -- the kind of each line
 abbrev pub kinds_of : List (List ℕ) → List Kind
-kinds_of lines = let blocks = block_kinds lines in take (length lines) blocks ++ kinds_after false (drop (length blocks) lines)
+kinds_of lines = let blocks = block_kinds lines in take (length lines) blocks ++ kinds_after false
+    (drop (length blocks) lines)
 
 -- the bond lines before line i
 abbrev pub bond_lines_before : List (List ℕ) → ℕ → List (List ℕ)
@@ -84,8 +88,11 @@ first_code [] = None
 first_code ((holds, code) ∷ tests) = if holds then first_code tests else Some code
 
 abbrev pub counts_refusal : List ℕ → Option ℕ
-counts_refusal line = first_code (
-    (is_some (atoms_field line) && is_some (bonds_field line) && is_some (lists_field line) && is_some (stext_field line), 1)
+counts_refusal line = first_code ((
+  is_some (atoms_field line) && is_some (bonds_field line) && is_some (lists_field line)
+      && is_some (stext_field line),
+  1,
+)
     ∷ (length (field 34 39 line) == 0 || bytes_eq (field 34 39 line) (codes "V2000"), 2)
     ∷ (unwrap_or (stext_field line) 0 == 0, 3)
     ∷ (not (unwrap_or (atoms_field line) 0 == 0), 14)
@@ -134,9 +141,16 @@ abbrev pub is_place : ℕ → ℕ → Bool
 is_place atoms n = nat_le 1 n && nat_le n atoms
 
 abbrev pub bond_refusal : ℕ → List (List ℕ) → List ℕ → Option ℕ
-bond_refusal atoms earlier line = first_code (
-    (is_some (number_of (field 1 3 line)) && is_some (number_of (field 4 6 line)) && is_some (number_of (field 7 9 line)), 7)
-    ∷ (is_place atoms (bond_first line) && is_place atoms (bond_second line) && not (bond_first line == bond_second line), 8)
+bond_refusal atoms earlier line = first_code ((
+  is_some (number_of (field 1 3 line)) && is_some (number_of (field 4 6 line))
+      && is_some (number_of (field 7 9 line)),
+  7,
+)
+    ∷ (
+      is_place atoms (bond_first line) && is_place atoms (bond_second line)
+          && not (bond_first line == bond_second line),
+      8,
+    )
     ∷ (nat_le 1 (bond_kind line) && nat_le (bond_kind line) 4, 9)
     ∷ (not (list_any (λ other. joins (ends_of other) (bond_first line) (bond_second line)) earlier), 10)
     ∷ [])
@@ -145,13 +159,15 @@ bond_refusal atoms earlier line = first_code (
 abbrev pub entries : {V : Type 0} → (List ℕ → Option V) → ℕ → ℕ → List (List ℕ) → Option (List (ℕ × V))
 entries value atoms zero words = Some []
 entries value atoms (suc n) (place ∷ word ∷ words) =
-    option_and_then (λ p. option_and_then (λ v. option_and_then (λ rest. Some ((p, v) ∷ rest)) (entries value atoms n words)) (value word))
+    option_and_then (λ p. option_and_then
+    (λ v. option_and_then (λ rest. Some ((p, v) ∷ rest)) (entries value atoms n words)) (value word))
     (option_and_then (λ p. if is_place atoms p then Some p else None) (number_of place))
 entries value atoms (suc n) _ = None
 
 abbrev pub listed_entries : {V : Type 0} → (List ℕ → Option V) → ℕ → List (List ℕ) → Option (List (ℕ × V))
 listed_entries value atoms [] = None
-listed_entries value atoms (count ∷ words) = option_and_then (λ n. if nat_le n 8 then entries value atoms n words else None) (number_of count)
+listed_entries value atoms (count ∷ words) =
+    option_and_then (λ n. if nat_le n 8 then entries value atoms n words else None) (number_of count)
 
 -- the entries that the line gives; further words are passed over
 unfoldable pub line_entries : {V : Type 0} → (List ℕ → Option V) → ℕ → List ℕ → Option (List (ℕ × V))
@@ -159,7 +175,8 @@ line_entries value atoms line = listed_entries value atoms (words_of (drop 6 lin
 
 -- a listed charge is -15 to 15, a listed mass 0 to 999
 unfoldable pub listed_charge : List ℕ → Option ℤ
-listed_charge word = option_and_then (λ c. if int_le (negsuc 14) c && int_le c (pos 15) then Some c else None) (signed_of word)
+listed_charge word = option_and_then (λ c. if int_le (negsuc 14) c && int_le c (pos 15) then Some c else None)
+    (signed_of word)
 
 unfoldable pub listed_mass : List ℕ → Option ℕ
 listed_mass word = number_of word

@@ -1,7 +1,8 @@
--- The record of a section: its name and its molecule, or the line that is refused.
--- (CTfile Formats, "The Header Block" for the name, "The Atom Block", "The Bond Block" and "The Properties Block". How names are kept, and
--- that a list of charges or of radicals sets aside the charges of the atom block, is this project's own profile.)
-use Rattle.std.specs.Prelude.{◌≡◌, ◌⊎◌, ℕ, ◌+◌, ◌<◌, pos, List, [], ◌++◌, ◌∷◌, length, take, map, Option, None, Some, unwrap_or, Bool, true, false, ◌==◌, ◌&&◌, ◌||◌, nat_le, fold, slice_get, if◌then◌else◌}
+-- The record of a section: its name and its molecule, or the line that is refused. (CTfile Formats, "The Header Block"
+-- for the name, "The Atom Block", "The Bond Block" and "The Properties Block". How names are kept, and that a list of
+-- charges or of radicals sets aside the charges of the atom block, is this project's own profile.)
+use Rattle.std.specs.Prelude.{◌≡◌, ◌⊎◌, ℕ, ◌+◌, ◌<◌, pos, List, [], ◌++◌, ◌∷◌, length, take, map, Option, None, Some}
+use Rattle.std.specs.Prelude.{unwrap_or, Bool, true, false, ◌==◌, ◌&&◌, ◌||◌, nat_le, fold, slice_get, if◌then◌else◌}
 use Rattle.std.specs.List.{list_any, zip, range_with_len, filter_map}
 use lib.Chars.{codes}
 use Rattle.htss_defs.specs.declared.mol.Atom.{Atom}
@@ -11,7 +12,9 @@ use Rattle.htss_defs.specs.Marked.{IsMarked, unmarked_molecule}
 use Rattle.mol_section.specs.declared.outcome.SectionOutcome.{SectionOutcome}
 use Rattle.mol_section.specs.declared.outcome.SectionOutcome.TheVariants.{Accepted, Refused}
 use Rattle.mol_section.specs.Fields.{trim_ends, begins, field}
-use Rattle.mol_section.specs.SectionLines.{Kind, atom, bond, property, end_mark, kinds_of, refusal, symbol_value, charge_value, bond_first, bond_second, bond_kind, line_entries, listed_charge, listed_mass, lists_charges, lists_masses, atom_count}
+use Rattle.mol_section.specs.SectionLines.{Kind, atom, bond, property, end_mark, kinds_of, refusal, symbol_value}
+use Rattle.mol_section.specs.SectionLines.{charge_value, bond_first, bond_second, bond_kind, line_entries}
+use Rattle.mol_section.specs.SectionLines.{listed_charge, listed_mass, lists_charges, lists_masses, atom_count}
 
 -- the name: of the first 80 bytes of the first line those that are not printable as `?`, without spaces at both ends
 abbrev pub name_of : List ℕ → List ℕ
@@ -26,7 +29,8 @@ kind_is end_mark end_mark = true
 kind_is _ _ = false
 
 abbrev pub lines_of_kind : Kind → List (List ℕ) → List (List ℕ)
-lines_of_kind kind lines = filter_map (λ (line, is). if kind_is kind is then Some line else None) (zip lines (kinds_of lines))
+lines_of_kind kind lines = filter_map (λ (line, is). if kind_is kind is then Some line else None)
+    (zip lines (kinds_of lines))
 
 -- all entries of the lines of one sort, in order
 abbrev pub all_entries : {V : Type 0} → (List ℕ → Option V) → (List ℕ → Bool) → ℕ → List (List ℕ) → List (ℕ × V)
@@ -45,7 +49,8 @@ sets_charges_aside properties = list_any (λ line. lists_charges line || begins 
 abbrev pub atom_of : ℕ → List (List ℕ) → ℕ × List ℕ → Atom
 atom_of atoms properties (place, line) =
     let symbol = unwrap_or (symbol_value (field 32 34 line)) (0, 0) in
-    let block_charge = if sets_charges_aside properties then pos 0 else unwrap_or (charge_value (field 37 39 line)) (pos 0) in
+    let block_charge = if sets_charges_aside properties then pos 0 else unwrap_or (charge_value (field 37 39 line))
+    (pos 0) in
     record {
       element = symbol.0;
       charge = last_entry block_charge place (all_entries listed_charge lists_charges atoms properties);
@@ -60,7 +65,8 @@ abbrev pub molecule_of : List (List ℕ) → Molecule
 molecule_of lines =
     let atom_lines = lines_of_kind atom lines in
     record {
-      atoms = map (atom_of (atom_count lines) (lines_of_kind property lines)) (zip (range_with_len 1 (length atom_lines)) atom_lines);
+      atoms = map (atom_of (atom_count lines) (lines_of_kind property lines))
+          (zip (range_with_len 1 (length atom_lines)) atom_lines);
       bonds = map bond_of (lines_of_kind bond lines);
     }
 
@@ -102,7 +108,8 @@ pub record HasNoEnd (lines : List (List ℕ)) (i code : ℕ) : Type 0 where
 -- the outcome of a section whose first line has this number
 abbrev pub IsOutcome : ℕ → List (List ℕ) → Outcome → Type 0
 IsOutcome first lines (accepted name mol) = IsAccepted lines name mol
-IsOutcome first lines (refused line code) = (i : ℕ) × (line ≡ first + i) × (IsRefusedAt lines i code ⊎ HasNoEnd lines i code)
+IsOutcome first lines (refused line code) = (i : ℕ) × (line ≡ first + i)
+    × (IsRefusedAt lines i code ⊎ HasNoEnd lines i code)
 
 -- the outcome that the code answers
 abbrev pub outcome_of : SectionOutcome → Outcome

@@ -1,13 +1,16 @@
 -- A reader on its way through the lines of a section.
-use Rattle.std.specs.Prelude.{◌≡◌, ◌⊎◌, ℕ, ◌+◌, ◌-◌, ◌<◌, ◌≤◌, List, [], ◌∷◌, ◌++◌, length, take, drop, map, replicate, slice_get, Some, None, Bool, false, All, AllPairs, if◌then◌else◌}
+use Rattle.std.specs.Prelude.{◌≡◌, ◌⊎◌, ℕ, ◌+◌, ◌-◌, ◌<◌, ◌≤◌, List, [], ◌∷◌, ◌++◌, length, take, drop, map, replicate}
+use Rattle.std.specs.Prelude.{slice_get, Some, None, Bool, false, All, AllPairs, if◌then◌else◌}
 use Rattle.std.specs.List.{zip, range_with_len, filter_map}
 use Rattle.htss_defs.specs.declared.mol.Atom.{Atom}
 use Rattle.htss_defs.specs.declared.mol.Bond.{Bond}
 use Rattle.htss_defs.specs.Graph.{Graph}
 use Rattle.htss_defs.specs.Molecule.{IsAtom, IsBond, AreBondsApart, bond_ends}
 use Rattle.mol_section.specs.declared.counts.Counts.{Counts}
-use Rattle.mol_section.specs.SectionLines.{Kind, atom, bond, atom_list, property, end_mark, kinds_of, kinds_after, block_kinds, atom_count, bond_lines_before}
-use Rattle.mol_section.specs.SectionRecord.{AcceptsLines, IsRefusedAt, HasNoEnd, HasEnd, kind_is, lines_of_kind, atom_of, bond_of, sets_charges_aside}
+use Rattle.mol_section.specs.SectionLines.{Kind, atom, bond, atom_list, property, end_mark, kinds_of, kinds_after}
+use Rattle.mol_section.specs.SectionLines.{block_kinds, atom_count, bond_lines_before}
+use Rattle.mol_section.specs.SectionRecord.{AcceptsLines, IsRefusedAt, HasNoEnd, HasEnd, kind_is, lines_of_kind}
+use Rattle.mol_section.specs.SectionRecord.{atom_of, bond_of, sets_charges_aside}
 
 -- what is wrong before a line is read: none is left, or it is too long
 abbrev pub IsLineFault : List (List ℕ) → ℕ → Type 0
@@ -24,7 +27,8 @@ abbrev pub picked : Kind → List (List ℕ) → List Kind → List (List ℕ)
 picked kind lines kinds = filter_map (λ (line, is). if kind_is kind is then Some line else None) (zip lines kinds)
 
 -- n lines are passed, none of them is refused and none is an end mark; these lines of these kinds are left
-pub record IsPassed (lines : List (List ℕ)) (n : ℕ) (rest : List (List ℕ)) (left : List Kind) (atoms bonds properties : List (List ℕ)) : Type 0 where
+pub record IsPassed (lines : List (List ℕ)) (n : ℕ) (rest : List (List ℕ)) (left : List Kind)
+    (atoms bonds properties : List (List ℕ)) : Type 0 where
   pub front : List (List ℕ)
   pub kinds : List Kind
   pub lines_are : lines ≡ front ++ rest
@@ -63,7 +67,8 @@ abbrev pub made_atoms : ℕ → List (List ℕ) → List (List ℕ) → List Ato
 made_atoms size properties lines = map (atom_of size properties) (zip (range_with_len 1 (length lines)) lines)
 
 -- what was read of the lines that are passed
-pub record IsDraft (lines : List (List ℕ)) (n : ℕ) (rest : List (List ℕ)) (left : List Kind) (size : ℕ) (aside : Bool) (atoms : List Atom) (bonds : List Bond) : Type 0 where
+pub record IsDraft (lines : List (List ℕ)) (n : ℕ) (rest : List (List ℕ)) (left : List Kind) (size : ℕ) (aside : Bool)
+    (atoms : List Atom) (bonds : List Bond) : Type 0 where
   pub atom_lines : List (List ℕ)
   pub bond_lines : List (List ℕ)
   pub properties : List (List ℕ)
@@ -81,7 +86,8 @@ pub record AtHeader (lines : List (List ℕ)) (n : ℕ) (rest : List (List ℕ))
   pub passed : IsPassed lines n rest (kinds_left (drop n (block_kinds lines)) rest) [] [] []
 
 -- before atom line i
-pub record AtAtoms (lines : List (List ℕ)) (sizes : Counts) (n i : ℕ) (rest : List (List ℕ)) (atoms : List Atom) (bonds : List Bond) : Type 0 where
+pub record AtAtoms (lines : List (List ℕ)) (sizes : Counts) (n i : ℕ) (rest : List (List ℕ)) (atoms : List Atom)
+    (bonds : List Bond) : Type 0 where
   pub draft : IsDraft lines n rest (kinds_left (to_atoms sizes i) rest) sizes.atoms false atoms bonds
   pub place : n ≡ 4 + i
   pub count : length atoms ≡ i
@@ -89,7 +95,8 @@ pub record AtAtoms (lines : List (List ℕ)) (sizes : Counts) (n i : ℕ) (rest 
   pub no_properties : draft.properties ≡ []
 
 -- before bond line i
-pub record AtBonds (lines : List (List ℕ)) (sizes : Counts) (n i : ℕ) (rest : List (List ℕ)) (atoms : List Atom) (bonds : List Bond) : Type 0 where
+pub record AtBonds (lines : List (List ℕ)) (sizes : Counts) (n i : ℕ) (rest : List (List ℕ)) (atoms : List Atom)
+    (bonds : List Bond) : Type 0 where
   pub draft : IsDraft lines n rest (kinds_left (to_bonds sizes i) rest) sizes.atoms false atoms bonds
   pub place : n ≡ 4 + sizes.atoms + i
   pub count : length bonds ≡ i
@@ -97,13 +104,15 @@ pub record AtBonds (lines : List (List ℕ)) (sizes : Counts) (n i : ℕ) (rest 
   pub before : bond_lines_before lines n ≡ draft.bond_lines
 
 -- before line i of the atom lists
-pub record AtLists (lines : List (List ℕ)) (sizes : Counts) (n i : ℕ) (rest : List (List ℕ)) (atoms : List Atom) (bonds : List Bond) : Type 0 where
+pub record AtLists (lines : List (List ℕ)) (sizes : Counts) (n i : ℕ) (rest : List (List ℕ)) (atoms : List Atom)
+    (bonds : List Bond) : Type 0 where
   pub draft : IsDraft lines n rest (kinds_left (to_lists sizes i) rest) sizes.atoms false atoms bonds
   pub all_atoms : length atoms ≡ sizes.atoms
   pub all_bonds : length bonds ≡ sizes.bonds
 
 -- before a line after the blocks
-pub record AtProperties (lines : List (List ℕ)) (sizes : Counts) (n : ℕ) (passing : Bool) (rest : List (List ℕ)) (aside : Bool) (atoms : List Atom) (bonds : List Bond) : Type 0 where
+pub record AtProperties (lines : List (List ℕ)) (sizes : Counts) (n : ℕ) (passing : Bool) (rest : List (List ℕ))
+    (aside : Bool) (atoms : List Atom) (bonds : List Bond) : Type 0 where
   pub draft : IsDraft lines n rest (kinds_after passing rest) sizes.atoms aside atoms bonds
   pub all_atoms : length atoms ≡ sizes.atoms
   pub all_bonds : length bonds ≡ sizes.bonds

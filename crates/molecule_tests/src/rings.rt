@@ -151,8 +151,8 @@ fn marks_ring_bonds(rt: HostRuntime) -> Result<(), Fail> {
     Ok(())
 }
 
-// The topology of the bonds, and the sketch: no such topology; no atoms; too many; a place that is no atom's; a pair of places
-// twice.
+// The topology of the bonds, and the sketch: no such topology; no atoms; too many; a place that is no atom's; a pair of
+// places twice.
 const REFUSED: &[(u8, Sketch)] = &[
     (3, CHAIN),
     (

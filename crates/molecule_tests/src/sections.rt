@@ -38,7 +38,8 @@ const TWICE: &str =
 const TURNED: &str =
     "pair\n\n\n  2  2  0  0  0  0  0  0  0  0999 V2000\n    0.0000    0.0000    0.0000 N   0  0\n    1.0000    0.0000    0.0000 O   0  0\n  1  2  1  0\n  2  1  2  0\nM  END\n";
 
-// What is changed in the pair, and the number of its first line; then the line and the code of the refusal, if it is refused.
+// What is changed in the pair, and the number of its first line; then the line and the code of the refusal, if it is
+// refused.
 const CHANGES: &[(&str, &str, u32, Option<(u64, u8)>)] = &[
     ("pair", "", 1, None),
     ("  2  1  0", " x2  1  0", 1, Some((4, 1))),
@@ -103,8 +104,8 @@ fn refuses_lines(rt: HostRuntime) -> Result<(), Fail> {
     Ok(())
 }
 
-// A section that is accepted: its name, its first atom from the symbol on, and the lines after its bond; then the name and the
-// atoms that are read.
+// A section that is accepted: its name, its first atom from the symbol on, and the lines after its bond; then the name
+// and the atoms that are read.
 struct Reading {
     written: &'static str,
     symbol: &'static str,

@@ -1,5 +1,6 @@
 -- Files by name, and what a read gives of them (this project's own).
-use Rattle.std.specs.Prelude.{◌≡◌, ◌⊎◌, ℕ, ◌<◌, ◌≤◌, List, [], ◌∷◌, length, take, drop, ◌++◌, if◌then◌else◌, Option, None, Some, Result, IfSome, IfOk, IsSomeAnd, MatchOption}
+use Rattle.std.specs.Prelude.{◌≡◌, ◌⊎◌, ℕ, ◌<◌, ◌≤◌, List, [], ◌∷◌, length, take, drop, ◌++◌, if◌then◌else◌, Option}
+use Rattle.std.specs.Prelude.{None, Some, Result, IfSome, IfOk, IsSomeAnd, MatchOption}
 use Rattle.std.specs.Str.{bytes_eq}
 
 pub record File : Type 0 where
@@ -50,4 +51,5 @@ pub record IsFront (bytes front : List ℕ) : Type 0 where
 
 -- a reading of the file from its front may have given these bytes so far
 abbrev pub HasFront : Option (List File) → List ℕ → List ℕ → Type 0
-HasFront told name front = IfSome told (λ files. MatchOption (bytes_of files name) (front ≡ []) (λ bytes. IsFront bytes front))
+HasFront told name front =
+    IfSome told (λ files. MatchOption (bytes_of files name) (front ≡ []) (λ bytes. IsFront bytes front))

@@ -1,5 +1,6 @@
 -- What the shelf and the sink in memory hold, and what each call answers and leaves.
-use Rattle.std.specs.Prelude.{◌≡◌, ◌≢◌, ℕ, ◌-◌, ◌==◌, min, if◌then◌else◌, List, ◌++◌, length, take, map, AllPairs, Option, None, Some, Result, Ok, Err, Bool}
+use Rattle.std.specs.Prelude.{◌≡◌, ◌≢◌, ℕ, ◌-◌, ◌==◌, min, if◌then◌else◌, List, ◌++◌, length, take, map, AllPairs}
+use Rattle.std.specs.Prelude.{Option, None, Some, Result, Ok, Err, Bool}
 use Rattle.std.specs.List.{list_any}
 use Rattle.std.specs.Result.{result_unwrap_or}
 use Rattle.outside.specs.declared.named_bytes.NamedBytes.{NamedBytes}

@@ -20,4 +20,5 @@ pub record KeepsOff (states : ℕ → ℕ) (holder other : Account) (page : ℕ)
 -- where the rule of the board holds, as it does at each moment, so it is for each two callers
 abbrev pub LawOfHolding : Type 0
 LawOfHolding = (k : Shape) (p : Parts) (history : List Event) (vs : List View) → Rule k p history vs
-    → EachAccount (λ holder. EachAccount (λ other. Each (KeepsOff p.pool.states holder other) (held_in holder.tree.reached)) vs) vs
+    → EachAccount (λ holder. EachAccount
+    (λ other. Each (KeepsOff p.pool.states holder other) (held_in holder.tree.reached)) vs) vs

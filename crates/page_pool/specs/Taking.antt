@@ -80,7 +80,8 @@ pub record HasScanned (k : Shape) (c d : Seated) : Type 0 where
 abbrev pub with_looks : Account → List StateLoad → List StateLoad → Account
 with_looks a ss ls = record a { loads = record a.loads { states = a.loads.states ++ ss; lost = a.loads.lost ++ ls } }
 
--- the page was loaded as busy or as retired no earlier than this epoch, or it was found changed in an exchange of the word loaded
+-- the page was loaded as busy or as retired no earlier than this epoch, or it was found changed in an exchange of the
+-- word loaded
 pub record WasLoaded (low : ℕ) (ss : List StateLoad) (page : ℕ) : Type 0 where
   pub index : ℕ
   pub load : StateLoad
@@ -154,8 +155,8 @@ pub record IsRefused (k : Shape) (c d : Seated) : Type 0 where
   pub own : d.account.pool.own ≡ c.account.pool.own
   pub stock : d.stock ≡ c.stock
 
--- a page that the caller kept, or one that it has found. It doesn't keep it, and its other own pages are as they were. So it has one
--- more that it doesn't keep, and it has linked none
+-- a page that the caller kept, or one that it has found. It doesn't keep it, and its other own pages are as they were.
+-- So it has one more that it doesn't keep, and it has linked none
 pub record IsGiven (k : Shape) (c d : Seated) (page : ℕ) : Type 0 where
   pub own : HasOwn d.account page
   pub others : (q : ℕ) → q ≢ page → owns q d.account.pool.own ≡ owns q c.account.pool.own

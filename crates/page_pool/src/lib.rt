@@ -1,5 +1,6 @@
-//! Pages that return only when nobody holds them: callers pin an epoch while they read pages, and a page that was retired is taken
-//! again once no announced epoch is as early as its stamp. Epoch-based reclamation after Fraser, over words and accounts.
+//! Pages that return only when nobody holds them: callers pin an epoch while they read pages, and a page that was
+//! retired is taken again once no announced epoch is as early as its stamp. Epoch-based reclamation after Fraser, over
+//! words and accounts.
 #![tactic(auto)]
 
 mod law;

@@ -5,7 +5,8 @@ ghost use Rattle.board_core.specs.EpochRule.{last_epoch};
 ghost use Rattle.board_core.specs.Loaded.{IsPage, HasEpoch};
 ghost use Rattle.board_core.specs.After.{lower};
 ghost use Rattle.board.specs.Seated.{IsOf, IsLoader};
-ghost use Rattle.page_pool.specs.Taking.{HasTried, HasRisen, HasPassed, HasScanned, AreBetween, AreRound, HasLooked, HasTaken};
+ghost use Rattle.page_pool.specs.Taking.{HasTried, HasRisen, HasPassed, HasScanned, AreBetween, AreRound, HasLooked};
+ghost use Rattle.page_pool.specs.Taking.{HasTaken};
 
 use board::{
     Board, Caller, LAST_EPOCH, advance_epoch, exchange_state, load_announcement, load_epoch,
@@ -80,7 +81,8 @@ fn try_page(board: &Board, caller: &mut Caller, page: u32, low: u64) -> bool
     requires page { IsPage board.now.shape page }
     requires low { caller.old.account.pool.low ≡ low }
     requires scanned { board.now.shape.loaders + board.now.shape.searchers ≤ caller.old.account.pool.passed }
-    ensures { MatchBool result (HasTaken (AreBetween page (page + 1)) caller.old caller.new page) (HasLooked (AreBetween page (page + 1)) low page (page + 1) caller.old caller.new) }
+    ensures { MatchBool result (HasTaken (AreBetween page (page + 1)) caller.old caller.new page)
+        (HasLooked (AreBetween page (page + 1)) low page (page + 1) caller.old caller.new) }
 {
     let state = load_state(board, caller, page);
     if state == 1 || state > low {
@@ -97,7 +99,8 @@ fn look_from(board: &Board, caller: &mut Caller, from: u32, until: u32, low: u64
     requires range { (0 < from) × (from ≤ until) × (until ≤ board.now.shape.pages + 1) }
     requires low { caller.old.account.pool.low ≡ low }
     requires scanned { board.now.shape.loaders + board.now.shape.searchers ≤ caller.old.account.pool.passed }
-    ensures some { IfSome result (λ page. (from ≤ page) × (page < until) × HasTaken (AreBetween from (page + 1)) caller.old caller.new page) }
+    ensures some { IfSome result (λ page. (from ≤ page) × (page < until)
+        × HasTaken (AreBetween from (page + 1)) caller.old caller.new page) }
     ensures none { IfNone result (HasLooked (AreBetween from until) low from until caller.old caller.new) }
 {
     for page in from..until {
@@ -116,8 +119,10 @@ pub(crate) fn look_round(board: &Board, caller: &mut Caller, next: u32, low: u64
     requires next { IsPage board.now.shape next }
     requires low { caller.old.account.pool.low ≡ low }
     requires scanned { board.now.shape.loaders + board.now.shape.searchers ≤ caller.old.account.pool.passed }
-    ensures some { IfSome result (λ page. IsPage board.now.shape page × HasTaken (AreRound board.now.shape.pages next) caller.old caller.new page) }
-    ensures none { IfNone result (HasLooked (AreRound board.now.shape.pages next) low 1 (board.now.shape.pages + 1) caller.old caller.new) }
+    ensures some { IfSome result (λ page. IsPage board.now.shape page
+        × HasTaken (AreRound board.now.shape.pages next) caller.old caller.new page) }
+    ensures none { IfNone result (HasLooked (AreRound board.now.shape.pages next) low 1
+        (board.now.shape.pages + 1) caller.old caller.new) }
 {
     let end = board.shape().pages + 1;
     if let Some(page) = look_from(board, caller, next, end, low) {

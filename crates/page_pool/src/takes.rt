@@ -38,7 +38,8 @@ fn find_page(board: &Board, caller: &mut Caller) -> Option<u32>
     requires fits { IsOf board.now caller.old }
     requires loader { IsLoader caller.old }
     requires few { length caller.old.account.pool.own < most_own }
-    ensures some { IfSome result (λ page. IsPage board.now.shape page × HasFound board.now.shape caller.old caller.new page) }
+    ensures some { IfSome result
+        (λ page. IsPage board.now.shape page × HasFound board.now.shape caller.old caller.new page) }
     ensures none { IfNone result (IsRefused board.now.shape caller.old caller.new) }
 {
     let low = scan_callers(board, caller);
@@ -63,7 +64,8 @@ pub fn take(board: &Board, caller: &mut Caller) -> Result<u32, NoPage>
     requires few { length caller.old.account.pool.own < most_own }
     ensures of { IsOf board.now caller.new }
     ensures loader { IsLoader caller.new }
-    ensures ok { IfOk result (λ page. IsPage board.now.shape page × IsGiven board.now.shape caller.old caller.new page) }
+    ensures ok { IfOk result (λ page. IsPage board.now.shape page
+        × IsGiven board.now.shape caller.old caller.new page) }
     ensures none { IfErr result (λ e. (caller.old.stock ≡ []) × IsRefused board.now.shape caller.old caller.new) }
 {
     if let Some(page) = caller.kept_page() {

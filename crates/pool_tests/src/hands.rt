@@ -39,7 +39,8 @@ fn puts_down(hands: &[AtomicBool], page: u32) {
     }
 }
 
-// A loader takes a page while it is pinned, holds it for a while, and keeps it. Answers whether the page was in no other hand.
+// A loader takes a page while it is pinned, holds it for a while, and keeps it. Answers whether the page was in no
+// other hand.
 fn borrows(board: &Board, caller: &mut Caller, hands: &[AtomicBool]) -> bool
     requires idle { IsResting board.now caller.old }
     requires loader { IsLoader caller.old }

@@ -23,16 +23,21 @@ pub record GoesOn (a b : Account) : Type 0 where
 abbrev pub IsLater : List View → List View → Type 0
 IsLater vs ws = EachAccount (λ a. (loader : ℕ) → a.who ≡ Loader loader → SomeAccount (GoesOn a) ws) vs
 
--- where the rule of the board holds at two moments, as it does at each, the history of the later begins with that of the earlier
+-- where the rule of the board holds at two moments, as it does at each, the history of the later begins with that of
+-- the earlier
 abbrev pub LawOfHistory : Type 0
-LawOfHistory = (k : Shape) (p q : Parts) (earlier later : List Event) (vs ws : List View) → Rule k p earlier vs → Rule k q later ws
+LawOfHistory = (k : Shape) (p q : Parts) (earlier later : List Event) (vs ws : List View) → Rule k p earlier vs
+    → Rule k q later ws
     → IsLater vs ws → take (length earlier) later ≡ earlier
 
 -- the accounts at a moment, and those that a closed board was given: each loader's has gone on
 abbrev pub IsClosedLater : List View → List Account → Type 0
-IsClosedLater vs accounts = EachAccount (λ a. (loader : ℕ) → a.who ≡ Loader loader → (j : ℕ) × (b : Account) × (get_elem? accounts j ≡ some b) × GoesOn a b) vs
+IsClosedLater vs accounts =
+    EachAccount (λ a. (loader : ℕ) → a.who ≡ Loader loader → (j : ℕ) × (b : Account) × (get_elem? accounts j ≡ some b)
+    × GoesOn a b) vs
 
 -- the history of a closed board begins with that of each earlier moment
 abbrev pub LawOfLastHistory : Type 0
-LawOfLastHistory = (k : Shape) (p : Parts) (earlier : List Event) (vs : List View) (last : Closing) → Rule k p earlier vs → IsSettled last
+LawOfLastHistory = (k : Shape) (p : Parts) (earlier : List Event) (vs : List View) (last : Closing)
+    → Rule k p earlier vs → IsSettled last
     → IsClosedLater vs last.accounts → take (length earlier) last.history ≡ earlier

@@ -28,18 +28,22 @@ pub record IsHeld (k : Shape) (a : Account) (front : ℕ) : Type 0 where
 
 -- the loader's staged record is published, and the lock is free
 abbrev pub after_publication : Account → ℕ → Staging → Account
-after_publication a loader s = after_free (after_event (after_logged (after_shows a s.block) (publication_word loader s.block)) (Publish loader s.name s.mol)) []
+after_publication a loader s =
+    after_free (after_event (after_logged (after_shows a s.block) (publication_word loader s.block))
+    (Publish loader s.name s.mol)) []
 
 -- the number of a block is withdrawn by the loader, and the lock is free
 abbrev pub after_withdrawal : Account → ℕ → Ending → Account
-after_withdrawal a loader e = after_free (after_event (after_logged (after_ends a e) (withdrawal_word loader e.target)) (Withdraw loader e.target)) []
+after_withdrawal a loader e =
+    after_free (after_event (after_logged (after_ends a e) (withdrawal_word loader e.target))
+    (Withdraw loader e.target)) []
 
 -- whatever the board is by what the account has loaded, the entry is true of it
 abbrev pub IsToldBy : Shape → Account → Entry → Type 0
 IsToldBy k a e = (p : Parts) → MayBe k p a → IsTrueLog k (history_of k p) e
 
--- a call under the lock leaves the account so: without the lock, with this front seen and these entries more. It loaded log words and
--- marks alone
+-- a call under the lock leaves the account so: without the lock, with this front seen and these entries more. It loaded
+-- log words and marks alone
 pub record IsCalled (a b : Account) (front : ℕ) (es : List Entry) : Type 0 where
   pub who : b.who ≡ a.who
   pub log : b.log ≡ record { seen = front; holding = Away; pending = nothing }

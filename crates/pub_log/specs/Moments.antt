@@ -13,14 +13,19 @@ use Rattle.htss_defs.specs.declared.history.Event.{Event}
 use Rattle.htss_defs.specs.declared.shape.Shape.{Shape}
 use Rattle.board_core.specs.Accounts.{account, view, with_me, keeping, gone, made_by}
 use Rattle.board_core.specs.After.{after_made, after_hear}
-use Rattle.board_core.specs.Steps.{Mine, Exchange, Claim, Takes, Frees, Answers, LoadsFront, Stores, Shows, Ends, Logs, ShowsEvent, LoadsLog, LoadsHead, LoadsMark, LoadsCode, LoadsFact, LoadsEpoch, Advances, Pins, Unpins, Passes, LoadsState, TakesPage, Retires, StoresOwn, BeginsWalk, LoadsHeader, LoadsSlot, LoadsLink, LoadsMore, ClaimsWord, ExchangesLeaf, LoadsOwnCode, BeginsRow, LoadsOwnHead}
+use Rattle.board_core.specs.Steps.{Mine, Exchange, Claim, Takes, Frees, Answers, LoadsFront, Stores, Shows, Ends, Logs}
+use Rattle.board_core.specs.Steps.{ShowsEvent, LoadsLog, LoadsHead, LoadsMark, LoadsCode, LoadsFact, LoadsEpoch}
+use Rattle.board_core.specs.Steps.{Advances, Pins, Unpins, Passes, LoadsState, TakesPage, Retires, StoresOwn}
+use Rattle.board_core.specs.Steps.{BeginsWalk, LoadsHeader, LoadsSlot, LoadsLink, LoadsMore, ClaimsWord, ExchangesLeaf}
+use Rattle.board_core.specs.Steps.{LoadsOwnCode, BeginsRow, LoadsOwnHead}
 use Rattle.board_core.specs.Passing.{PassesLeaf}
 use Rattle.board_core.specs.Met.{LoadsEntry, LoadsMetHead, LoadsMetCode}
 use Rattle.pub_log.specs.Later.{IsLater}
 
 -- wherever a seat makes a step of this kind, the accounts afterwards are later
 abbrev pub GoesLater : (Step (Unit {0}) → Mine → ℕ → Mine → Type 0) → Type 0
-GoesLater then = (vs : List View) (id : ℕ) (s : Step (Unit {0})) (m : Mine) (found : ℕ) (n : Mine) → get_elem? vs id ≡ some m.0 → then s m found n → IsLater vs (set vs id n.0)
+GoesLater then = (vs : List View) (id : ℕ) (s : Step (Unit {0})) (m : Mine) (found : ℕ) (n : Mine)
+    → get_elem? vs id ≡ some m.0 → then s m found n → IsLater vs (set vs id n.0)
 
 -- the steps on the log and on the blocks
 pub record LogStepsGoLater : Type 0 where
@@ -70,9 +75,11 @@ pub record SeatsGoLater : Type 0 where
   pub made : (vs : List View) (id : ℕ) (v w : View) → get_elem? vs id ≡ some v → v.me.who ≡ Opener (made_by v.me.who)
       → IsLater vs (set vs id (with_me v (after_made v.me)) ++ w ∷ [])
   pub noted : (vs : List View) (w : View) → IsLater vs (vs ++ w ∷ [])
-  pub heard : (vs : List View) (id other seen : ℕ) (v : View) (k : Shape) → get_elem? vs id ≡ some v → ¬ (other ≡ id) → get_elem? vs other ≡ some (view k (account Note seen))
+  pub heard : (vs : List View) (id other seen : ℕ) (v : View) (k : Shape) → get_elem? vs id ≡ some v → ¬ (other ≡ id)
+      → get_elem? vs other ≡ some (view k (account Note seen))
       → IsLater vs (set (set vs id (with_me v (after_hear v.me seen))) other gone)
-  pub gathered : (vs : List View) (id other : ℕ) (v w : View) → get_elem? vs id ≡ some v → ¬ (other ≡ id) → get_elem? vs other ≡ some w
+  pub gathered : (vs : List View) (id other : ℕ) (v w : View) → get_elem? vs id ≡ some v → ¬ (other ≡ id)
+      → get_elem? vs other ≡ some w
       → IsLater vs (set (set vs id (keeping v w)) other gone)
 
 -- and a moment that is later than a later one is later

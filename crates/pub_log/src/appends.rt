@@ -21,7 +21,9 @@ fn show_event(board: &Board, caller: &mut Caller)
     requires holding { caller.old.account.log.holding ≡ Fronted }
     requires logged { caller.old.account.log.pending.logged ≡ Some (word_or_0 caller.old.account.log.pending.logged) }
     requires room { caller.old.account.log.seen < board.now.shape.log }
-    ensures { caller.new ≡ with_account caller.old (after_event caller.old.account (event_by board.now.shape caller.old.account (word_or_0 caller.old.account.log.pending.logged))) }
+    ensures { caller.new ≡ with_account caller.old
+        (after_event caller.old.account
+        (event_by board.now.shape caller.old.account (word_or_0 caller.old.account.log.pending.logged))) }
 {
     advance_front::<Brand>(board, caller);
 }
@@ -34,7 +36,8 @@ pub(crate) fn append_publication(board: &Board, caller: &mut Caller, staged: Sta
     requires loader { IsLoader caller.old }
     requires staged { IsStaged board.now.shape caller.old.account staged }
     requires small { staged.block < 2 ^ 40 }
-    ensures { caller.new ≡ with_account caller.old (after_publication caller.old.account (number_of caller.old) staged) }
+    ensures { caller.new ≡ with_account caller.old
+        (after_publication caller.old.account (number_of caller.old) staged) }
 {
     let block = staged.block();
     let loader = caller.number() as u64;
@@ -50,7 +53,8 @@ pub(crate) fn append_withdrawal(board: &Board, caller: &mut Caller, number: u32,
     requires loader { IsLoader caller.old }
     requires may { MayEnd board.now.shape caller.old.account (record { target = number; block = block }) }
     requires place { IsInTable board.now.shape block }
-    ensures { caller.new ≡ with_account caller.old (after_withdrawal caller.old.account (number_of caller.old) (record { target = number; block = block })) }
+    ensures { caller.new ≡ with_account caller.old
+        (after_withdrawal caller.old.account (number_of caller.old) (record { target = number; block = block })) }
 {
     let target = number as u64;
     let loader = caller.number() as u64;

@@ -24,7 +24,8 @@ pub(crate) fn free_full(board: &Board, caller: &mut Caller)
     requires may { MayFree caller.old.account }
     requires full { caller.old.account.log.seen ≡ board.now.shape.log }
     ensures told { IsToldBy board.now.shape caller.new.account (LogFull caller.old.account.log.seen) }
-    ensures after { caller.new ≡ with_account caller.old (after_free caller.old.account (LogFull caller.old.account.log.seen ∷ [])) }
+    ensures after { caller.new ≡ with_account caller.old
+        (after_free caller.old.account (LogFull caller.old.account.log.seen ∷ [])) }
 {
     free_lock::<Brand>(board, caller);
 }
@@ -45,7 +46,8 @@ pub(crate) fn free_unknown(board: &Board, caller: &mut Caller, number: u32)
     requires may { MayFree caller.old.account }
     requires unknown { IsToldBy board.now.shape caller.old.account (Unknown number caller.old.account.log.seen) }
     ensures told { IsToldBy board.now.shape caller.new.account (Unknown number caller.old.account.log.seen) }
-    ensures after { caller.new ≡ with_account caller.old (after_free caller.old.account (Unknown number caller.old.account.log.seen ∷ [])) }
+    ensures after { caller.new ≡ with_account caller.old
+        (after_free caller.old.account (Unknown number caller.old.account.log.seen ∷ [])) }
 {
     free_with::<Brand>(board, caller, number, 0);
 }

@@ -18,8 +18,8 @@ use std::marker::Model;
 use std::sync::Wait;
 use std::thread;
 
-/// The lock is held, by the caller that took it. It must be spent by one of its calls, which free the lock. Contracts see the front
-/// under the lock.
+/// The lock is held, by the caller that took it. It must be spent by one of its calls, which free the lock. Contracts
+/// see the front under the lock.
 pub struct Locked {
     front: u32,
 }
@@ -74,8 +74,8 @@ impl Locked {
         front
     }
 
-    /// Appends the publication of a staged record of the caller's own, and answers its number. It is refused exactly where the log is
-    /// full; then the staged record is handed back as it was. Other records that are staged stay so.
+    /// Appends the publication of a staged record of the caller's own, and answers its number. It is refused exactly
+    /// where the log is full; then the staged record is handed back as it was. Other records that are staged stay so.
     pub fn publish(
         self,
         board: &Board,
@@ -87,8 +87,10 @@ impl Locked {
         requires loader { IsLoader caller.old }
         requires staged { IsStaged board.now.shape caller.old.account staged }
         ensures ok { IfOk result (λ n. (n ≡ self + 1) × (self < board.now.shape.log)
-            × (caller.new ≡ with_account caller.old (after_publication caller.old.account (number_of caller.old) staged))) }
-        ensures others { MatchResult result (λ _. StayStagedBut staged.block board.now.shape caller.old.account caller.new.account)
+            × (caller.new ≡ with_account caller.old
+            (after_publication caller.old.account (number_of caller.old) staged))) }
+        ensures others { MatchResult result
+            (λ _. StayStagedBut staged.block board.now.shape caller.old.account caller.new.account)
             (λ _. StayStaged board.now.shape caller.old.account caller.new.account) }
         ensures full { IfErr result (λ e. (e.0.front ≡ self) × (self ≡ board.now.shape.log) × (e.1 ≡ staged)
             × (caller.new ≡ with_account caller.old (after_free caller.old.account (Full self ∷ [])))) }
@@ -102,9 +104,9 @@ impl Locked {
         Ok(front + 1)
     }
 
-    /// Appends the withdrawal of a number, and answers its own number. It is refused exactly where the number is no publication's up
-    /// to the front, where an event has withdrawn it, or else where the log is full; what it tells is true of every board that has what
-    /// the caller has loaded.
+    /// Appends the withdrawal of a number, and answers its own number. It is refused exactly where the number is no
+    /// publication's up to the front, where an event has withdrawn it, or else where the log is full; what it tells is
+    /// true of every board that has what the caller has loaded.
     pub fn withdraw(
         self,
         board: &Board,
@@ -117,7 +119,8 @@ impl Locked {
         ensures of { IsOf board.now caller.new }
         ensures stock { caller.new.stock ≡ caller.old.stock }
         ensures ok { IfOk result (λ n. (n ≡ self + 1) × (self < board.now.shape.log)
-            × IsCalled caller.old.account caller.new.account n (Withdrawn n (Withdraw (number_of caller.old) number) ∷ [])) }
+            × IsCalled caller.old.account caller.new.account n
+            (Withdrawn n (Withdraw (number_of caller.old) number) ∷ [])) }
         ensures refused { IfErr result (λ e. IsRefusal board.now.shape caller.new.account self number e
             × IsCalled caller.old.account caller.new.account self (refusal number e ∷ [])) }
         ensures told { IfErr result (λ e. IsToldBy board.now.shape caller.new.account (refusal number e)) }

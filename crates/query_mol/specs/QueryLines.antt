@@ -1,8 +1,9 @@
--- What each line of a query's section says, and which are refused: as in a record, but for the symbols, the bond types, the topology and
--- the atom lists.
--- (CTfile Formats, "The Atom Block" for A, Q, * and L, "The Bond Block" for query bond types 5 to 8 and topology, "The Atom List Block" and
--- the property `M  ALS`. That list lines are read by words, and the refusals with their numbers, is this project's own.)
-use Rattle.std.specs.Prelude.{ℕ, zero, suc, ◌+◌, List, [], ◌∷◌, length, drop, Option, None, Some, option_and_then, is_some}
+-- What each line of a query's section says, and which are refused: as in a record, but for the symbols, the bond types,
+-- the topology and the atom lists. (CTfile Formats, "The Atom Block" for A, Q, * and L, "The Bond Block" for query bond
+-- types 5 to 8 and topology, "The Atom List Block" and the property `M ALS`. That list lines are read by words, and the
+-- refusals with their numbers, is this project's own.)
+use Rattle.std.specs.Prelude.{ℕ, zero, suc, ◌+◌, List, [], ◌∷◌, length, drop, Option, None, Some, option_and_then}
+use Rattle.std.specs.Prelude.{is_some}
 use Rattle.std.specs.Prelude.{Bool, true, false, not, ◌&&◌, ◌||◌, ◌==◌, nat_le, if◌then◌else◌}
 use Rattle.std.specs.List.{list_any, position}
 use Rattle.std.specs.Str.{bytes_eq}
@@ -17,7 +18,8 @@ use Rattle.mol_section.specs.SectionLines.{first_code, symbol_value, charge_valu
 
 -- A is any atom but hydrogen, Q any but carbon and hydrogen, * any, L an atom list
 abbrev pub is_query_symbol : List ℕ → Bool
-is_query_symbol symbol = bytes_eq symbol (codes "A") || bytes_eq symbol (codes "Q") || bytes_eq symbol (codes "*") || bytes_eq symbol (codes "L")
+is_query_symbol symbol = bytes_eq symbol (codes "A") || bytes_eq symbol (codes "Q") || bytes_eq symbol (codes "*")
+    || bytes_eq symbol (codes "L")
 
 abbrev pub query_atom_refusal : List ℕ → Option ℕ
 query_atom_refusal line = first_code (
@@ -35,9 +37,16 @@ topology_value text =
     else (if are_digits text && nat_le (value_of text) 2 then Some (value_of text) else None)
 
 abbrev pub query_bond_refusal : ℕ → List (List ℕ) → List ℕ → Option ℕ
-query_bond_refusal atoms earlier line = first_code (
-    (is_some (number_of (field 1 3 line)) && is_some (number_of (field 4 6 line)) && is_some (number_of (field 7 9 line)), 7)
-    ∷ (is_place atoms (bond_first line) && is_place atoms (bond_second line) && not (bond_first line == bond_second line), 8)
+query_bond_refusal atoms earlier line = first_code ((
+  is_some (number_of (field 1 3 line)) && is_some (number_of (field 4 6 line))
+      && is_some (number_of (field 7 9 line)),
+  7,
+)
+    ∷ (
+      is_place atoms (bond_first line) && is_place atoms (bond_second line)
+          && not (bond_first line == bond_second line),
+      8,
+    )
     ∷ (nat_le 1 (bond_kind line) && nat_le (bond_kind line) 8, 9)
     ∷ (not (list_any (λ other. joins (ends_of other) (bond_first line) (bond_second line)) earlier), 10)
     ∷ (is_some (topology_value (field 16 18 line)), 22)
@@ -53,7 +62,8 @@ pub record AtomList : Type 0 where
 
 -- T excludes, F does not
 abbrev pub excludes_value : List ℕ → Option Bool
-excludes_value word = if bytes_eq word (codes "T") then Some true else (if bytes_eq word (codes "F") then Some false else None)
+excludes_value word = if bytes_eq word (codes "T") then Some true else
+    (if bytes_eq word (codes "F") then Some false else None)
 
 -- an atomic number, 1 to 118
 abbrev pub element_number : List ℕ → Option ℕ

@@ -1,5 +1,5 @@
--- The outcome of a query file: the query of its first section, or where that is refused.
--- (CTfile Formats, "Molfiles": a file of one section. That what follows the first section is not read is this project's own.)
+-- The outcome of a query file: the query of its first section, or where that is refused. (CTfile Formats, "Molfiles": a
+-- file of one section. That what follows the first section is not read is this project's own.)
 use Rattle.std.specs.Prelude.{ℕ, List, Result, Ok, Err}
 use Rattle.htss_defs.specs.QueryGraph.{QueryGraph}
 use Rattle.mol_section.specs.Lines.{lines_of}

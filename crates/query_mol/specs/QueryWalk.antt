@@ -9,7 +9,8 @@ use Rattle.htss_defs.specs.Graph.{Graph}
 use Rattle.htss_defs.specs.QueryGraph.{IsAtomTest, IsQueryBond, AreQueryBondsApart, query_bond_ends}
 use Rattle.mol_section.specs.declared.counts.Counts.{Counts}
 use Rattle.mol_section.specs.AtomLines.{IsAtomFrom}
-use Rattle.mol_section.specs.SectionLines.{Kind, atom, bond, atom_list, property, end_mark, kinds_of, kinds_after, block_kinds}
+use Rattle.mol_section.specs.SectionLines.{Kind, atom, bond, atom_list, property, end_mark, kinds_of, kinds_after}
+use Rattle.mol_section.specs.SectionLines.{block_kinds}
 use Rattle.mol_section.specs.SectionLines.{atom_count, bond_lines_before}
 use Rattle.mol_section.specs.SectionRecord.{HasEnd, lines_of_kind, sets_charges_aside}
 use Rattle.mol_section.specs.Walk.{picked, kinds_left, to_atoms, to_bonds, to_lists, made_atoms}
@@ -53,7 +54,8 @@ pub record AreQueryLines (lines atoms bonds lists properties : List (List ℕ)) 
   pub properties_are : lines_of_kind property lines ≡ properties
 
 -- what was read of the lines that are passed
-pub record IsQueryDraft (lines : List (List ℕ)) (n : ℕ) (rest : List (List ℕ)) (left : List Kind) (size : ℕ) (aside : Bool)
+pub record IsQueryDraft (lines : List (List ℕ)) (n : ℕ) (rest : List (List ℕ)) (left : List Kind) (size : ℕ)
+    (aside : Bool)
     (atoms : List Atom) (tests : List (Option AtomTest)) (bonds : List QueryBond) : Type 0 where
   pub atom_lines : List (List ℕ)
   pub bond_lines : List (List ℕ)
@@ -112,7 +114,8 @@ pub record IsQueryGraphOf (graph : Graph) (size : ℕ) (bonds : List QueryBond) 
   pub bonds_are : graph.bonds ≡ map query_bond_ends bonds
 
 -- before a line after the blocks
-pub record AtQueryProperties (lines : List (List ℕ)) (sizes : Counts) (n : ℕ) (passing : Bool) (rest : List (List ℕ)) (aside : Bool)
+pub record AtQueryProperties (lines : List (List ℕ)) (sizes : Counts) (n : ℕ) (passing : Bool) (rest : List (List ℕ))
+    (aside : Bool)
     (atoms : List Atom) (tests : List (Option AtomTest)) (bonds : List QueryBond) : Type 0 where
   pub draft : IsQueryDraft lines n rest (kinds_after passing rest) sizes.atoms aside atoms tests bonds
   pub all_atoms : length atoms ≡ sizes.atoms

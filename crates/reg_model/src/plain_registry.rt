@@ -1,4 +1,5 @@
-ghost use Rattle.std.specs.Prelude.{◌≡◌, ◌≢◌, ◌↔◌, ℕ, ◌+◌, ◌≤◌, [], ◌∷◌, ◌++◌, length, take, List, IsTrue, Err, None, IfOk, IfSome, OnOk, OnErr};
+ghost use Rattle.std.specs.Prelude.{◌≡◌, ◌≢◌, ◌↔◌, ℕ, ◌+◌, ◌≤◌, [], ◌∷◌, ◌++◌, length, take, List, IsTrue, Err, None};
+ghost use Rattle.std.specs.Prelude.{IfOk, IfSome, OnOk, OnErr};
 ghost use Rattle.htss_defs.specs.declared.history.Event.TheVariants.{Publish, Withdraw};
 ghost use Rattle.htss_defs.specs.Molecule.{Molecule};
 ghost use Rattle.htss_defs.specs.Marked.{IsMarked};
@@ -185,8 +186,8 @@ impl PlainRegistry {
         Ok(())
     }
 
-    /// Gives the hits of the query among the records that are live after the first `front` events, by rising number, each with the least
-    /// embedding, and how many records were screened. After an error the list is empty.
+    /// Gives the hits of the query among the records that are live after the first `front` events, by rising number,
+    /// each with the least embedding, and how many records were screened. After an error the list is empty.
     pub fn hits_at(&self, front: u32, query: &Query, hits: &mut HitList) -> Result<(), OutOfMemory>
         requires front { front ≤ length self.now.events }
         requires marked { AreMarked self.now.events }

@@ -1,8 +1,10 @@
 -- A line that is checked, after those before it.
 use Rattle.std.specs.Prelude.{◌≡◌, ℕ, List, length}
 use Rattle.report_text.specs.declared.report.LoadLine.{LoadLine}
-use Rattle.report_text.specs.declared.report.LoadLine.TheVariants.{Published, Refused, DataFull, NoPage, ChainFull, LogFull}
-use Rattle.report_rules.specs.Answers.{Fate, published, no_room, no_page, chain_full, log_full, RecordAnswer, not_accepted, taken}
+use Rattle.report_text.specs.declared.report.LoadLine.TheVariants.{Published, Refused, DataFull, NoPage, ChainFull}
+use Rattle.report_text.specs.declared.report.LoadLine.TheVariants.{LogFull}
+use Rattle.report_rules.specs.Answers.{Fate, published, no_room, no_page, chain_full, log_full, RecordAnswer}
+use Rattle.report_rules.specs.Answers.{not_accepted, taken}
 use Rattle.report_rules.specs.Dealing.{Dealt}
 use Rattle.report_rules.specs.Faults.{Setting}
 use Rattle.report_rules.specs.Rules.{Line}
@@ -16,7 +18,8 @@ use Rattle.report_audit.specs.SoFars.{IsSoFar}
 use Rattle.told_history.specs.Telling.{Tells}
 
 -- what this job's next line is checked by: the told history, and what the lines before it carry
-pub record IsNextOf (told : Told) (so_far : SoFar) (caller : Caller) (s : Setting) (earlier : List Line) (one : Dealt) : Type 0 where
+pub record IsNextOf (told : Told) (so_far : SoFar) (caller : Caller) (s : Setting) (earlier : List Line)
+    (one : Dealt) : Type 0 where
   pub events_are : s.events ≡ told.lines.now
   pub tells : Tells told s.history
   pub lines : IsSoFar earlier so_far

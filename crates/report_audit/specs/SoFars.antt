@@ -14,7 +14,8 @@ pub record IsFree (taken : List Bool) (number : ℕ) : Type 0 where
 -- for each event whether a line has its number as its own
 pub record AreTaken (lines : List Line) (taken : List Bool) : Type 0 where
   pub free : (number : ℕ) → IsFree taken number → IsOnce lines number
-  pub held : (number : ℕ) → 1 ≤ number → number ≤ length taken → (IsFree taken number → ⊥) → Contains (flat_map owns lines) number
+  pub held : (number : ℕ) → 1 ≤ number → number ≤ length taken → (IsFree taken number → ⊥)
+      → Contains (flat_map owns lines) number
 
 -- the tally of these lines, and which events they name
 pub record IsSoFar (lines : List Line) (so_far : SoFar) : Type 0 where

@@ -1,5 +1,6 @@
 -- What the lines of a report carry, as a few numbers for each caller.
-use Rattle.std.specs.Prelude.{◌≡◌, ◌≢◌, ℕ, ◌+◌, ◌-◌, ◌^◌, ◌≤◌, List, [], ◌∷◌, length, slice_index, All, max, min, sum_by, Bool, nat_lt, if◌then◌else◌}
+use Rattle.std.specs.Prelude.{◌≡◌, ◌≢◌, ℕ, ◌+◌, ◌-◌, ◌^◌, ◌≤◌, List, [], ◌∷◌, length, slice_index, All, max, min}
+use Rattle.std.specs.Prelude.{sum_by, Bool, nat_lt, if◌then◌else◌}
 use Rattle.report_rules.specs.Answers.{fronts_of, own_number}
 use Rattle.report_rules.specs.Dealing.{Caller, loader, searcher}
 use Rattle.report_rules.specs.Rules.{Line, is_same, marks, used_by, words_used}
@@ -20,7 +21,8 @@ owns line = own_number line.answer
 -- the greatest of what the lines that pass carry
 abbrev pub most_where : (Line → Bool) → (Line → List ℕ) → List Line → ℕ
 most_where passes carried [] = 0
-most_where passes carried (line ∷ lines) = max (if passes line then most (carried line) else 0) (most_where passes carried lines)
+most_where passes carried (line ∷ lines) = max (if passes line then most (carried line) else 0)
+    (most_where passes carried lines)
 
 -- of what the caller's lines carry
 abbrev pub most_by : Caller → (Line → List ℕ) → List Line → ℕ

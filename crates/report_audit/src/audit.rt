@@ -105,10 +105,13 @@ fn first_later_fault(told: &Told<'_>, turns: &Turns<'_>) -> Result<Option<u64>, 
     requires shape { IsShape turns.now.shape }
     requires reads { length turns.now.reads.now ≡ length turns.now.jobs.now }
     requires lines { line_after turns.now.blocks.now + length told.now.lines.now < 2 ^ 64 }
-    ensures fault { IfOk result (λ found. IfSome found (λ line. (script : List Group) (s : Setting) → AreTurnsOf told.now turns.now script s
+    ensures fault { IfOk result (λ found. IfSome found
+        (λ line. (script : List Group) (s : Setting) → AreTurnsOf told.now turns.now script s
         → IsRuleFault s (dealt s.shape 1 script) turns.now.blocks.now line
-        ⊎ ((number : ℕ) × (line ≡ line_after turns.now.blocks.now + number) × IsUnnamed s (dealt s.shape 1 script) turns.now.blocks.now number))) }
-    ensures none { IfOk result (λ found. IfNone found ((script : List Group) (s : Setting) → AreTurnsOf told.now turns.now script s
+        ⊎ ((number : ℕ) × (line ≡ line_after turns.now.blocks.now + number)
+        × IsUnnamed s (dealt s.shape 1 script) turns.now.blocks.now number))) }
+    ensures none { IfOk result (λ found. IfNone found
+        ((script : List Group) (s : Setting) → AreTurnsOf told.now turns.now script s
         → IsAllKept s (dealt s.shape 1 script) turns.now.blocks.now)) }
 {
     let mut so_far = SoFar::new(turns.alloc, told.lines.len())?;
@@ -123,7 +126,8 @@ fn first_later_fault(told: &Told<'_>, turns: &Turns<'_>) -> Result<Option<u64>, 
 
 // The number of the first event that no line names.
 fn first_free(taken: &[bool]) -> Option<u64>
-    ensures free { IfSome result (λ number. IsFree taken.now number × ((other : ℕ) → other < number → IsFree taken.now other → ⊥)) }
+    ensures free { IfSome result (λ number. IsFree taken.now number
+        × ((other : ℕ) → other < number → IsFree taken.now other → ⊥)) }
     ensures none { IfNone result ((other : ℕ) → IsFree taken.now other → ⊥) }
 {
     for (index, held) in taken.iter().enumerate() {

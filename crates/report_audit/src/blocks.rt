@@ -18,7 +18,8 @@ use report_text::{Block, WithdrawLine};
 use script_text::{Job, Order};
 use told_history::{JobRead, Told, is_block_for, records_of};
 
-/// Notes the lines of the block at the place of a job; or gives the first at fault, by its place after the block's first line.
+/// Notes the lines of the block at the place of a job; or gives the first at fault, by its place after the block's
+/// first line.
 pub fn take_block(
     turns: &Turns<'_>,
     told: &Told<'_>,
@@ -30,8 +31,10 @@ pub fn take_block(
 ) -> Result<Option<usize>, OutOfMemory>
     requires whole { IsWhole told.now }
     requires caller { IsCaller (caller_of caller) }
-    ensures kept { IfOk result (λ found. IfNone found (IsKeptTurn told.now so_far.old so_far.new turns.now caller job.now read.now here.now)) }
-    ensures fault { IfOk result (λ found. IfSome found (λ offset. IsFaultyTurn told.now so_far.old turns.now caller job.now read.now here.now offset)) }
+    ensures kept { IfOk result (λ found. IfNone found
+        (IsKeptTurn told.now so_far.old so_far.new turns.now caller job.now read.now here.now)) }
+    ensures fault { IfOk result (λ found. IfSome found
+        (λ offset. IsFaultyTurn told.now so_far.old turns.now caller job.now read.now here.now offset)) }
 {
     if !is_block_for(job, here) {
         return Ok(Some(0));

@@ -13,7 +13,8 @@ use told_history::LaidJob;
 /// The caller that the job is dealt to.
 pub fn caller_for(shape: Shape, laid: LaidJob<'_>) -> Caller
     requires { IsShape shape }
-    ensures is { caller_of result ≡ dealing.caller_in_turn shape laid.entry.loads laid.entry.searches laid.entry.job.now.order }
+    ensures is { caller_of result
+        ≡ dealing.caller_in_turn shape laid.entry.loads laid.entry.searches laid.entry.job.now.order }
     ensures within { IsCaller (caller_of result) }
 {
     match &laid.job.order {

@@ -37,7 +37,8 @@ pub fn carried_by_record(read: &RecordRead, line: &LoadLine) -> Carried
 
 // What the line of an accepted record with a block of so many words carries.
 fn carried_by_line(line: &LoadLine, words: u64) -> Carried
-    ensures { (one : Dealt) (of : NamedMol) → words ≡ block_words of → IsCarried (answer_line one (taken of (fate_of line.now))) result }
+    ensures { (one : Dealt) (of : NamedMol) → words ≡ block_words of
+        → IsCarried (answer_line one (taken of (fate_of line.now))) result }
 {
     match line {
         LoadLine::Published { number, .. } => Carried {

@@ -30,8 +30,10 @@ pub fn take_lines(
 ) -> Option<usize>
     requires whole { IsWhole told.now }
     requires caller { IsCaller (caller_of caller) }
-    ensures kept { IfNone result (AreKeptLines told.now so_far.old so_far.new shape caller (map outcome_of records.now) lines.now) }
-    ensures fault { IfSome result (λ offset. IsFaultyLine told.now so_far.old shape caller (map outcome_of records.now) lines.now offset) }
+    ensures kept { IfNone result (AreKeptLines told.now so_far.old so_far.new shape caller
+        (map outcome_of records.now) lines.now) }
+    ensures fault { IfSome result (λ offset. IsFaultyLine told.now so_far.old shape caller
+        (map outcome_of records.now) lines.now offset) }
 {
     let count = larger(records.len(), lines.len());
     for index in 0..count {

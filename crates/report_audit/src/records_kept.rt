@@ -29,9 +29,12 @@ pub fn keeps_record(
 ) -> bool
     requires whole { IsWhole told.now }
     requires caller { IsCaller (caller_of caller) }
-    ensures kept { result ≡ true → (s : Setting) (earlier : List Line) (one : Dealt) → s.shape ≡ shape → IsNextOf told.now so_far.now caller s earlier one
-        → (record_line place (answer_to read.now line.now) ≡ line.now) × keeps s earlier (answer_line one (answer_to read.now line.now)) }
-    ensures fault { result ≡ false → (s : Setting) (earlier : List Line) (one : Dealt) → s.shape ≡ shape → IsNextOf told.now so_far.now caller s earlier one
+    ensures kept { result ≡ true → (s : Setting) (earlier : List Line) (one : Dealt) → s.shape ≡ shape
+        → IsNextOf told.now so_far.now caller s earlier one
+        → (record_line place (answer_to read.now line.now) ≡ line.now)
+        × keeps s earlier (answer_line one (answer_to read.now line.now)) }
+    ensures fault { result ≡ false → (s : Setting) (earlier : List Line) (one : Dealt) → s.shape ≡ shape
+        → IsNextOf told.now so_far.now caller s earlier one
         → (answer : RecordAnswer) → outcome_of answer ≡ reads.outcome_of read.now → record_line place answer ≡ line.now
         → keeps s earlier (answer_line one answer) → ⊥ }
 {
@@ -84,9 +87,11 @@ fn keeps_fate(
 ) -> bool
     requires whole { IsWhole told.now }
     requires caller { IsCaller (caller_of caller) }
-    ensures kept { result ≡ true → (s : Setting) (earlier : List Line) (one : Dealt) → s.shape ≡ shape → IsNextOf told.now so_far.now caller s earlier one
+    ensures kept { result ≡ true → (s : Setting) (earlier : List Line) (one : Dealt) → s.shape ≡ shape
+        → IsNextOf told.now so_far.now caller s earlier one
         → keeps s earlier (answer_line one (taken (record { name = name.now; mol = mol.now }) (fate_of line.now))) }
-    ensures fault { result ≡ false → (s : Setting) (earlier : List Line) (one : Dealt) → s.shape ≡ shape → IsNextOf told.now so_far.now caller s earlier one
+    ensures fault { result ≡ false → (s : Setting) (earlier : List Line) (one : Dealt) → s.shape ≡ shape
+        → IsNextOf told.now so_far.now caller s earlier one
         → keeps s earlier (answer_line one (taken (record { name = name.now; mol = mol.now }) (fate_of line.now))) → ⊥ }
 {
     match line {
@@ -115,9 +120,11 @@ fn keeps_published(
 ) -> bool
     requires whole { IsWhole told.now }
     requires caller { IsCaller (caller_of caller) }
-    ensures kept { result ≡ true → (s : Setting) (earlier : List Line) (one : Dealt) → IsNextOf told.now so_far.now caller s earlier one
+    ensures kept { result ≡ true → (s : Setting) (earlier : List Line) (one : Dealt)
+        → IsNextOf told.now so_far.now caller s earlier one
         → keeps s earlier (answer_line one (taken (record { name = name.now; mol = mol.now }) (published number))) }
-    ensures fault { result ≡ false → (s : Setting) (earlier : List Line) (one : Dealt) → IsNextOf told.now so_far.now caller s earlier one
+    ensures fault { result ≡ false → (s : Setting) (earlier : List Line) (one : Dealt)
+        → IsNextOf told.now so_far.now caller s earlier one
         → keeps s earlier (answer_line one (taken (record { name = name.now; mol = mol.now }) (published number))) → ⊥ }
 {
     if !is_publication(told, number, caller.number, name, mol) {

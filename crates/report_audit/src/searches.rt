@@ -1,5 +1,6 @@
 // The block of a search.
-ghost use Rattle.std.specs.Prelude.{◌≡◌, ◌↔◌, ℕ, ◌≤◌, List, Some, None, IsTrue, true, false, length, IfOk, IfSome, IfNone};
+ghost use Rattle.std.specs.Prelude.{◌≡◌, ◌↔◌, ℕ, ◌≤◌, List, Some, None, IsTrue, true, false, length, IfOk, IfSome};
+ghost use Rattle.std.specs.Prelude.{IfNone};
 ghost use Rattle.report_text.specs.declared.report.SearchLine.TheVariants as search;
 ghost use Rattle.report_rules.specs.Answers.{Answer};
 ghost use Rattle.report_rules.specs.Dealing.{Dealt};
@@ -20,7 +21,8 @@ use report_text::SearchLine;
 use std::alloc::Global;
 use told_history::{JobRead, Told, check_hits, check_over};
 
-/// Notes the line of a search whose lines keep their rules; or gives the first at fault, by its place after the block's first line.
+/// Notes the line of a search whose lines keep their rules; or gives the first at fault, by its place after the block's
+/// first line.
 pub fn take_search(
     alloc: Global,
     told: &Told<'_>,
@@ -32,8 +34,10 @@ pub fn take_search(
 ) -> Result<Option<usize>, OutOfMemory>
     requires whole { IsWhole told.now }
     requires caller { IsCaller (caller_of caller) }
-    ensures kept { IfOk result (λ found. IfNone found (IsKeptSearch told.now so_far.old so_far.new caller budget read.now answer.now)) }
-    ensures fault { IfOk result (λ found. IfSome found (λ offset. IsFaultySearch told.now so_far.old caller budget read.now answer.now offset)) }
+    ensures kept { IfOk result (λ found. IfNone found
+        (IsKeptSearch told.now so_far.old so_far.new caller budget read.now answer.now)) }
+    ensures fault { IfOk result (λ found. IfSome found
+        (λ offset. IsFaultySearch told.now so_far.old caller budget read.now answer.now offset)) }
 {
     match answer {
         SearchLine::Refused { line, code } => Ok(take_refusal(so_far, caller, read, *line, *code)),
@@ -66,9 +70,11 @@ fn take_refusal(
     code: u8,
 ) -> Option<usize>
     requires { IsCaller (caller_of caller) }
-    ensures kept { (told : Told) (budget : ℕ) → IfNone result (IsKeptSearch told so_far.old so_far.new caller budget read.now (search.Refused line code)) }
+    ensures kept { (told : Told) (budget : ℕ)
+        → IfNone result (IsKeptSearch told so_far.old so_far.new caller budget read.now (search.Refused line code)) }
     ensures fault { (told : Told) (budget : ℕ)
-        → IfSome result (λ offset. IsFaultySearch told so_far.old caller budget read.now (search.Refused line code) offset) }
+        → IfSome result (λ offset. IsFaultySearch told so_far.old caller budget read.now
+        (search.Refused line code) offset) }
 {
     if !is_refused_so(read, line, code) {
         return Some(0);
@@ -101,9 +107,11 @@ fn query_of(read: &JobRead) -> Option<&Query>
 fn keeps_front(told: &Told<'_>, so_far: &SoFar, caller: Caller, front: u32) -> bool
     requires { IsCaller (caller_of caller) }
     ensures within { result ≡ true → front ≤ length told.now.lines.now }
-    ensures kept { result ≡ true → (s : Setting) (earlier : List Line) (one : Dealt) (answer : Answer) → IsNextOf told.now so_far.now caller s earlier one
+    ensures kept { result ≡ true → (s : Setting) (earlier : List Line) (one : Dealt) (answer : Answer)
+        → IsNextOf told.now so_far.now caller s earlier one
         → KeepsFront s earlier (line_by one answer) front }
-    ensures fault { result ≡ false → (s : Setting) (earlier : List Line) (one : Dealt) (answer : Answer) → IsNextOf told.now so_far.now caller s earlier one
+    ensures fault { result ≡ false → (s : Setting) (earlier : List Line) (one : Dealt) (answer : Answer)
+        → IsNextOf told.now so_far.now caller s earlier one
         → KeepsFront s earlier (line_by one answer) front → ⊥ }
 {
     if front as usize > told.lines.len() {
@@ -132,9 +140,11 @@ fn take_hits(
 ) -> Result<Option<usize>, OutOfMemory>
     requires whole { IsWhole told.now }
     requires caller { IsCaller (caller_of caller) }
-    ensures kept { (rows : ℕ) → IfOk result (λ found. IfNone found (IsKeptSearch told.now so_far.old so_far.new caller budget read.now
+    ensures kept { (rows : ℕ)
+        → IfOk result (λ found. IfNone found (IsKeptSearch told.now so_far.old so_far.new caller budget read.now
         (search.Hits printed.entry.front printed.entry.hits.now rows printed.entry.records))) }
-    ensures fault { (rows : ℕ) → IfOk result (λ found. IfSome found (λ offset. IsFaultySearch told.now so_far.old caller budget read.now
+    ensures fault { (rows : ℕ)
+        → IfOk result (λ found. IfSome found (λ offset. IsFaultySearch told.now so_far.old caller budget read.now
         (search.Hits printed.entry.front printed.entry.hits.now rows printed.entry.records) offset)) }
 {
     let Some(query) = query_of(read) else {
@@ -170,7 +180,8 @@ fn take_over(
 ) -> Result<Option<usize>, OutOfMemory>
     requires whole { IsWhole told.now }
     requires caller { IsCaller (caller_of caller) }
-    ensures kept { IfOk result (λ found. IfNone found (IsKeptSearch told.now so_far.old so_far.new caller budget read.now (search.OverBudget front printed))) }
+    ensures kept { IfOk result (λ found. IfNone found
+        (IsKeptSearch told.now so_far.old so_far.new caller budget read.now (search.OverBudget front printed))) }
     ensures fault { IfOk result (λ found. IfSome found (λ offset.
         IsFaultySearch told.now so_far.old caller budget read.now (search.OverBudget front printed) offset)) }
 {

@@ -1,5 +1,6 @@
 // What the lines that were checked before carry.
-ghost use Rattle.std.specs.Prelude.{◌≡◌, ℕ, ◌<◌, ◌≤◌, ◌++◌, ◌∷◌, [], List, true, false, ◌↔◌, ◌-◌, IsTrue, slice_set, length, IfOk};
+ghost use Rattle.std.specs.Prelude.{◌≡◌, ℕ, ◌<◌, ◌≤◌, ◌++◌, ◌∷◌, [], List, true, false, ◌↔◌, ◌-◌, IsTrue, slice_set};
+ghost use Rattle.std.specs.Prelude.{length, IfOk};
 ghost use Rattle.report_rules.specs.Rules.{IsNew, Line};
 ghost use Rattle.report_audit.specs.Callers.{caller_of};
 ghost use Rattle.report_audit.specs.SoFars.{IsFree, IsSoFar};
@@ -43,8 +44,10 @@ impl SoFar {
     /// One more line of the last group, by this caller.
     pub fn note(&mut self, caller: Caller, carried: Carried)
         requires { IsCaller (caller_of caller) }
-        ensures lines { (lines : List Line) (line : Line) → line.caller ≡ caller_of caller → line.group ≡ self.old.tally.group → IsCarried line carried
-            → carried.own ≤ length self.old.taken.items → IsSoFar lines self.old → IsSoFar (lines ++ line ∷ []) self.new }
+        ensures lines { (lines : List Line) (line : Line) → line.caller ≡ caller_of caller
+            → line.group ≡ self.old.tally.group → IsCarried line carried
+            → carried.own ≤ length self.old.taken.items → IsSoFar lines self.old
+            → IsSoFar (lines ++ line ∷ []) self.new }
         ensures group { self.new.tally.group ≡ self.old.tally.group }
         ensures long { length self.new.taken.items ≡ length self.old.taken.items }
     {
@@ -55,9 +58,11 @@ impl SoFar {
     /// Whether the number of an event is new on the caller's next line.
     pub fn is_new(&self, caller: Caller, number: u32) -> bool
         requires { IsCaller (caller_of caller) }
-        ensures new { result ≡ true → (lines : List Line) (line : Line) → IsNext self.now.tally (caller_of caller) line → IsSoFar lines self.now
+        ensures new { result ≡ true → (lines : List Line) (line : Line) → IsNext self.now.tally (caller_of caller) line
+            → IsSoFar lines self.now
             → IsNew lines line number }
-        ensures old { result ≡ false → (lines : List Line) (line : Line) → IsNext self.now.tally (caller_of caller) line → IsSoFar lines self.now
+        ensures old { result ≡ false → (lines : List Line) (line : Line) → IsNext self.now.tally (caller_of caller) line
+            → IsSoFar lines self.now
             → 1 ≤ number → number ≤ length self.now.taken.items → IsNew lines line number → ⊥ }
     {
         if !is_free(&self.taken, number) {

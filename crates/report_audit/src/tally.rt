@@ -14,7 +14,8 @@ pub struct Caller {
     pub number: u8,
 }
 
-/// What a line carries: its greatest mark, front and own event number, 0 where it has none, and the words that it has used.
+/// What a line carries: its greatest mark, front and own event number, 0 where it has none, and the words that it has
+/// used.
 #[derive(Clone, Copy, Debug, PartialEq, Eq)]
 pub struct Carried {
     pub mark: u32,
@@ -23,8 +24,8 @@ pub struct Carried {
     pub words: u64,
 }
 
-/// The greatest marks and fronts of each caller's lines and the words that they have used; the greatest mark and own event number of all
-/// lines, and of those of groups before the last.
+/// The greatest marks and fronts of each caller's lines and the words that they have used; the greatest mark and own
+/// event number of all lines, and of those of groups before the last.
 #[derive(Clone, Copy)]
 pub struct Tally {
     pub marks: [u32; 32],
@@ -71,7 +72,8 @@ impl Tally {
     /// One more line of the last group, by this caller.
     pub fn note(&mut self, caller: Caller, carried: Carried)
         requires { IsCaller (caller_of caller) }
-        ensures tally { (lines : List Line) (line : Line) → line.caller ≡ caller_of caller → line.group ≡ self.old.group → IsCarried line carried
+        ensures tally { (lines : List Line) (line : Line) → line.caller ≡ caller_of caller → line.group ≡ self.old.group
+            → IsCarried line carried
             → IsTallyOf lines self.old → IsTallyOf (lines ++ line ∷ []) self.new }
         ensures group { self.new.group ≡ self.old.group }
     {
@@ -87,9 +89,11 @@ impl Tally {
     pub fn is_new(&self, caller: Caller, number: u32) -> bool
         requires caller { IsCaller (caller_of caller) }
         requires some { 1 ≤ number }
-        ensures new { result ≡ true → (lines : List Line) (line : Line) → IsNext self.now (caller_of caller) line → IsTallyOf lines self.now
+        ensures new { result ≡ true → (lines : List Line) (line : Line) → IsNext self.now (caller_of caller) line
+            → IsTallyOf lines self.now
             → IsOnce lines number → IsNew lines line number }
-        ensures old { result ≡ false → (lines : List Line) (line : Line) → IsNext self.now (caller_of caller) line → IsTallyOf lines self.now
+        ensures old { result ≡ false → (lines : List Line) (line : Line) → IsNext self.now (caller_of caller) line
+            → IsTallyOf lines self.now
             → IsNew lines line number → ⊥ }
     {
         self.marks[place(caller)] < number && self.before < number
@@ -98,9 +102,11 @@ impl Tally {
     /// Whether the front may refuse on the caller's next line.
     pub fn is_refusing_front(&self, caller: Caller, front: u32) -> bool
         requires { IsCaller (caller_of caller) }
-        ensures front { result ≡ true → (lines : List Line) (line : Line) → IsNext self.now (caller_of caller) line → IsTallyOf lines self.now
+        ensures front { result ≡ true → (lines : List Line) (line : Line) → IsNext self.now (caller_of caller) line
+            → IsTallyOf lines self.now
             → IsRefusingFront lines line front }
-        ensures short { result ≡ false → (lines : List Line) (line : Line) → IsNext self.now (caller_of caller) line → IsTallyOf lines self.now
+        ensures short { result ≡ false → (lines : List Line) (line : Line) → IsNext self.now (caller_of caller) line
+            → IsTallyOf lines self.now
             → IsRefusingFront lines line front → ⊥ }
     {
         self.marks[place(caller)] <= front && self.own_before <= front
@@ -109,9 +115,11 @@ impl Tally {
     /// Whether the front may be a search's on the caller's next line.
     pub fn is_search_front(&self, caller: Caller, front: u32) -> bool
         requires { IsCaller (caller_of caller) }
-        ensures front { result ≡ true → (lines : List Line) (line : Line) → IsNext self.now (caller_of caller) line → IsTallyOf lines self.now
+        ensures front { result ≡ true → (lines : List Line) (line : Line) → IsNext self.now (caller_of caller) line
+            → IsTallyOf lines self.now
             → IsSearchFront lines line front }
-        ensures short { result ≡ false → (lines : List Line) (line : Line) → IsNext self.now (caller_of caller) line → IsTallyOf lines self.now
+        ensures short { result ≡ false → (lines : List Line) (line : Line) → IsNext self.now (caller_of caller) line
+            → IsTallyOf lines self.now
             → IsSearchFront lines line front → ⊥ }
     {
         self.fronts[place(caller)] <= front && self.before <= front
@@ -120,9 +128,11 @@ impl Tally {
     /// Whether the caller has so many words of its region left at its next line.
     pub fn is_room_left(&self, shape: Shape, caller: Caller, left: u32) -> bool
         requires { IsCaller (caller_of caller) }
-        ensures left { result ≡ true → (lines : List Line) (line : Line) → IsNext self.now (caller_of caller) line → IsTallyOf lines self.now
+        ensures left { result ≡ true → (lines : List Line) (line : Line) → IsNext self.now (caller_of caller) line
+            → IsTallyOf lines self.now
             → IsRoomLeft shape lines line left }
-        ensures other { result ≡ false → (lines : List Line) (line : Line) → IsNext self.now (caller_of caller) line → IsTallyOf lines self.now
+        ensures other { result ≡ false → (lines : List Line) (line : Line) → IsNext self.now (caller_of caller) line
+            → IsTallyOf lines self.now
             → IsRoomLeft shape lines line left → ⊥ }
     {
         left <= shape.room && self.words[place(caller)] == u64::from(shape.room - left)

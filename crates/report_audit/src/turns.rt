@@ -37,11 +37,13 @@ pub fn take_blocks(
     requires shape { IsShape turns.now.shape }
     requires reads { length turns.now.reads.now ≡ length turns.now.jobs.now }
     requires lines { line_after turns.now.blocks.now < 2 ^ 64 }
-    ensures kept { IfOk result (λ found. IfNone found ((script : List Group) (s : Setting) → AreTurnsOf told.now turns.now script s
+    ensures kept { IfOk result (λ found. IfNone found
+        ((script : List Group) (s : Setting) → AreTurnsOf told.now turns.now script s
         → HasKept told.now so_far.old s (dealt s.shape 1 script) turns.now.blocks.now 0
         → HasKept told.now so_far.new s (dealt s.shape 1 script) turns.now.blocks.now (length turns.now.jobs.now)
         × (length turns.now.blocks.now ≡ length turns.now.jobs.now))) }
-    ensures fault { IfOk result (λ found. IfSome found (λ line. (script : List Group) (s : Setting) → AreTurnsOf told.now turns.now script s
+    ensures fault { IfOk result (λ found. IfSome found
+        (λ line. (script : List Group) (s : Setting) → AreTurnsOf told.now turns.now script s
         → HasKept told.now so_far.old s (dealt s.shape 1 script) turns.now.blocks.now 0
         → IsRuleFault s (dealt s.shape 1 script) turns.now.blocks.now line)) }
 {
@@ -66,7 +68,8 @@ fn take_turn(
     requires reads { length turns.now.reads.now ≡ length turns.now.jobs.now }
     requires due { (index < length turns.now.jobs.now) ⊎ (index < length turns.now.blocks.now) }
     ensures kept { IfOk result (λ found. IfNone found (IsKeptNext told.now so_far.old so_far.new turns.now index)) }
-    ensures fault { IfOk result (λ found. IfSome found (λ offset. IsFaultyNext told.now so_far.old turns.now index offset)) }
+    ensures fault { IfOk result
+        (λ found. IfSome found (λ offset. IsFaultyNext told.now so_far.old turns.now index offset)) }
 {
     let jobs = turns.jobs;
     let reads = turns.reads;

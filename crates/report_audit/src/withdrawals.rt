@@ -27,9 +27,11 @@ pub fn keeps_withdrawal(
 ) -> bool
     requires whole { IsWhole told.now }
     requires caller { IsCaller (caller_of caller) }
-    ensures kept { result ≡ true → (s : Setting) (earlier : List Line) (one : Dealt) → s.shape ≡ shape → IsNextOf told.now so_far.now caller s earlier one
+    ensures kept { result ≡ true → (s : Setting) (earlier : List Line) (one : Dealt) → s.shape ≡ shape
+        → IsNextOf told.now so_far.now caller s earlier one
         → keeps s earlier (line_by one (to_withdrawal number answer)) }
-    ensures fault { result ≡ false → (s : Setting) (earlier : List Line) (one : Dealt) → s.shape ≡ shape → IsNextOf told.now so_far.now caller s earlier one
+    ensures fault { result ≡ false → (s : Setting) (earlier : List Line) (one : Dealt) → s.shape ≡ shape
+        → IsNextOf told.now so_far.now caller s earlier one
         → keeps s earlier (line_by one (to_withdrawal number answer)) → ⊥ }
 {
     match answer {
@@ -45,9 +47,11 @@ pub fn keeps_withdrawal(
 // Whether the event is this withdrawal, and new.
 fn keeps_at(told: &Told<'_>, so_far: &SoFar, caller: Caller, number: u32, event: u32) -> bool
     requires caller { IsCaller (caller_of caller) }
-    ensures kept { result ≡ true → (s : Setting) (earlier : List Line) (one : Dealt) → IsNextOf told.now so_far.now caller s earlier one
+    ensures kept { result ≡ true → (s : Setting) (earlier : List Line) (one : Dealt)
+        → IsNextOf told.now so_far.now caller s earlier one
         → keeps s earlier (line_by one (to_withdrawal number (answer.At event))) }
-    ensures fault { result ≡ false → (s : Setting) (earlier : List Line) (one : Dealt) → IsNextOf told.now so_far.now caller s earlier one
+    ensures fault { result ≡ false → (s : Setting) (earlier : List Line) (one : Dealt)
+        → IsNextOf told.now so_far.now caller s earlier one
         → keeps s earlier (line_by one (to_withdrawal number (answer.At event))) → ⊥ }
 {
     if !is_withdrawal(told, event, caller.number, number) {
@@ -59,9 +63,11 @@ fn keeps_at(told: &Told<'_>, so_far: &SoFar, caller: Caller, number: u32, event:
 // Whether no record of this number is published at the front, and the front may refuse.
 fn keeps_unknown(told: &Told<'_>, so_far: &SoFar, caller: Caller, number: u32, front: u32) -> bool
     requires caller { IsCaller (caller_of caller) }
-    ensures kept { result ≡ true → (s : Setting) (earlier : List Line) (one : Dealt) → IsNextOf told.now so_far.now caller s earlier one
+    ensures kept { result ≡ true → (s : Setting) (earlier : List Line) (one : Dealt)
+        → IsNextOf told.now so_far.now caller s earlier one
         → keeps s earlier (line_by one (to_withdrawal number (answer.Unknown front))) }
-    ensures fault { result ≡ false → (s : Setting) (earlier : List Line) (one : Dealt) → IsNextOf told.now so_far.now caller s earlier one
+    ensures fault { result ≡ false → (s : Setting) (earlier : List Line) (one : Dealt)
+        → IsNextOf told.now so_far.now caller s earlier one
         → keeps s earlier (line_by one (to_withdrawal number (answer.Unknown front))) → ⊥ }
 {
     if front as usize > told.lines.len() {
@@ -77,9 +83,11 @@ fn keeps_unknown(told: &Told<'_>, so_far: &SoFar, caller: Caller, number: u32, f
 fn keeps_full(told: &Told<'_>, so_far: &SoFar, caller: Caller, number: u32, front: u32) -> bool
     requires whole { IsWhole told.now }
     requires caller { IsCaller (caller_of caller) }
-    ensures kept { result ≡ true → (s : Setting) (earlier : List Line) (one : Dealt) → s.shape.log ≡ front → IsNextOf told.now so_far.now caller s earlier one
+    ensures kept { result ≡ true → (s : Setting) (earlier : List Line) (one : Dealt) → s.shape.log ≡ front
+        → IsNextOf told.now so_far.now caller s earlier one
         → keeps s earlier (line_by one (to_withdrawal number (answer.LogFull front))) }
-    ensures fault { result ≡ false → (s : Setting) (earlier : List Line) (one : Dealt) → IsNextOf told.now so_far.now caller s earlier one
+    ensures fault { result ≡ false → (s : Setting) (earlier : List Line) (one : Dealt)
+        → IsNextOf told.now so_far.now caller s earlier one
         → keeps s earlier (line_by one (to_withdrawal number (answer.LogFull front))) → ⊥ }
 {
     if front as usize > told.lines.len() {

@@ -3,10 +3,13 @@ use Rattle.std.specs.Prelude.{ℕ, List, [], ◌∷◌, ◌++◌}
 use lib.Chars.{codes}
 use Rattle.htss_defs.specs.FileName.{IsFileName}
 use Rattle.hit_report.specs.HitLines.{hit_line, overbudget_line}
-use Rattle.report_text.specs.ReportText.{event_line, front_text, header_text, hits_end, job_text, load_line, loaded_line, log_count_line, refused_part, withdraw_text}
-use Rattle.report_text.specs.Values.{AreShapeNumbers, IsHitLine, IsLoadLine, IsLogLine, IsRefusal, IsU32, IsU64, IsWithdrawLine}
+use Rattle.report_text.specs.ReportText.{event_line, front_text, header_text, hits_end, job_text, load_line}
+use Rattle.report_text.specs.ReportText.{loaded_line, log_count_line, refused_part, withdraw_text}
+use Rattle.report_text.specs.Values.{AreShapeNumbers, IsHitLine, IsLoadLine, IsLogLine, IsRefusal, IsU32, IsU64}
+use Rattle.report_text.specs.Values.{IsWithdrawLine}
 use Rattle.report_lines.specs.declared.line.Line.{Line}
-use Rattle.report_lines.specs.declared.line.Line.TheVariants.{Header, Load, Answer, Loaded, Withdraw, Search, NotRead, OneHit, HitsEnd, OverBudget, Log, Event, End}
+use Rattle.report_lines.specs.declared.line.Line.TheVariants.{Header, Load, Answer, Loaded, Withdraw, Search, NotRead}
+use Rattle.report_lines.specs.declared.line.Line.TheVariants.{OneHit, HitsEnd, OverBudget, Log, Event, End}
 
 -- the line with its LF
 abbrev pub line_text : Line → List ℕ

@@ -1,18 +1,21 @@
 -- How a line of a report, without its LF, is read from its front on (this project's own).
-use Rattle.std.specs.Prelude.{ℕ, ◌-◌, ◌^◌, List, [], ◌∷◌, length, slice_get, Option, Some, None, option_and_then, option_map, Bool, true, false, not, ◌&&◌, ◌==◌, nat_le, if◌then◌else◌, decimal, bytes_eq}
+use Rattle.std.specs.Prelude.{ℕ, ◌-◌, ◌^◌, List, [], ◌∷◌, length, slice_get, Option, Some, None, option_and_then}
+use Rattle.std.specs.Prelude.{option_map, Bool, true, false, not, ◌&&◌, ◌==◌, nat_le, if◌then◌else◌, decimal, bytes_eq}
 use Rattle.std.specs.List.{list_all, slice_split}
 use Rattle.std.specs.Str.Parse.{digits_value}
 use lib.Chars.{codes}
 use Rattle.htss_defs.specs.declared.shape.Shape.{Shape}
 use Rattle.hit_report.specs.RecordLines.{code_word}
 use Rattle.report_text.specs.declared.report.LoadLine.{LoadLine}
-use Rattle.report_text.specs.declared.report.LoadLine.TheVariants.{Published, Refused, DataFull, NoPage, ChainFull, LogFull}
+use Rattle.report_text.specs.declared.report.LoadLine.TheVariants.{Published, Refused, DataFull, NoPage, ChainFull}
+use Rattle.report_text.specs.declared.report.LoadLine.TheVariants.{LogFull}
 use Rattle.report_text.specs.declared.report.WithdrawLine.{WithdrawLine}
 use Rattle.report_text.specs.declared.report.WithdrawLine.TheVariants.{At, Unknown, Gone, LogFull as NoEntry}
 use Rattle.report_text.specs.declared.report.LogLine.{LogLine}
 use Rattle.report_text.specs.declared.report.LogLine.TheVariants.{Publish, Withdraw as Withdrawn}
 use Rattle.report_lines.specs.declared.line.Line.{Line}
-use Rattle.report_lines.specs.declared.line.Line.TheVariants.{Header, Load, Answer, Loaded, Withdraw, Search, NotRead, OneHit, HitsEnd, OverBudget, Log, Event, End}
+use Rattle.report_lines.specs.declared.line.Line.TheVariants.{Header, Load, Answer, Loaded, Withdraw, Search, NotRead}
+use Rattle.report_lines.specs.declared.line.Line.TheVariants.{OneHit, HitsEnd, OverBudget, Log, Event, End}
 
 -- what is read, and then what is read of that
 abbrev pub read_on : {A B : Type 0} → Option A → (A → Option B) → Option B
@@ -51,7 +54,8 @@ label_at label text = read_on (word_at text) (λ word. if bytes_eq word.0 label 
 -- the number that is written by the word, without leading zeros
 unfoldable pub numeral : ℕ → List ℕ → Option ℕ
 numeral most word =
-    if bytes_eq word (decimal (digits_value 10 word)) && nat_le (digits_value 10 word) most then Some (digits_value 10 word) else None
+    if bytes_eq word (decimal (digits_value 10 word)) && nat_le (digits_value 10 word) most then Some
+    (digits_value 10 word) else None
 
 -- a space and a number, and what follows
 unfoldable pub number_at : ℕ → List ℕ → Option (ℕ × List ℕ)
@@ -127,7 +131,8 @@ coded_at code text = if is_only (code_word code) text then Some code else None
 -- the line and the code, its word and no more
 unfoldable pub refusal_at : List ℕ → Option (ℕ × ℕ)
 refusal_at text =
-    read_on (number_at (2 ^ 64 - 1) text) (λ line. read_on (number_at 255 line.1) (λ code. option_map (λ c. (line.0, c)) (coded_at code.0 code.1)))
+    read_on (number_at (2 ^ 64 - 1) text)
+    (λ line. read_on (number_at 255 line.1) (λ code. option_map (λ c. (line.0, c)) (coded_at code.0 code.1)))
 
 -- ---- lines, after their first word
 
@@ -135,7 +140,8 @@ unfoldable pub callers_at : List ℕ → Option (ℕ × ℕ × ℕ × List ℕ)
 callers_at text =
     read_on (labelled_at (codes "loaders") 255 text) (λ loaders.
     read_on (labelled_at (codes "searchers") 255 loaders.1) (λ searchers.
-    option_map (λ pages. (loaders.0, searchers.0, pages.0, pages.1)) (labelled_at (codes "pages") (2 ^ 32 - 1) searchers.1)))
+    option_map (λ pages. (loaders.0, searchers.0, pages.0, pages.1))
+    (labelled_at (codes "pages") (2 ^ 32 - 1) searchers.1)))
 
 unfoldable pub sizes_at : List ℕ → Option (ℕ × ℕ × ℕ × List ℕ)
 sizes_at text =
@@ -145,10 +151,18 @@ sizes_at text =
 
 abbrev pub shape_of : ℕ × ℕ × ℕ × List ℕ → ℕ × ℕ × ℕ × List ℕ → Shape
 shape_of callers sizes =
-    record { loaders = callers.0; searchers = callers.1; pages = callers.2; room = sizes.0; log = sizes.1; chain = sizes.2 }
+    record {
+      loaders = callers.0;
+      searchers = callers.1;
+      pages = callers.2;
+      room = sizes.0;
+      log = sizes.1;
+      chain = sizes.2;
+    }
 
 unfoldable pub shape_at : List ℕ → Option (Shape × List ℕ)
-shape_at text = read_on (callers_at text) (λ callers. option_map (λ sizes. (shape_of callers sizes, sizes.3)) (sizes_at callers.3))
+shape_at text =
+    read_on (callers_at text) (λ callers. option_map (λ sizes. (shape_of callers sizes, sizes.3)) (sizes_at callers.3))
 
 unfoldable pub header_at : List ℕ → Option Line
 header_at text =
@@ -158,28 +172,38 @@ header_at text =
     option_map (λ budget. Header shape.0 budget) (last_number (2 ^ 64 - 1) rest))))
 
 unfoldable pub load_at : List ℕ → Option Line
-load_at text = read_on (number_at (2 ^ 32 - 1) text) (λ line. read_on (file_at line.1) (λ file. at_end file.1 (Load line.0 file.0)))
+load_at text =
+    read_on (number_at (2 ^ 32 - 1) text)
+    (λ line. read_on (file_at line.1) (λ file. at_end file.1 (Load line.0 file.0)))
 
 unfoldable pub published_at : List ℕ → Option LoadLine
-published_at text = read_on (number_at (2 ^ 32 - 1) text) (λ number. option_map (λ name. Published number.0 name) (name_at number.1))
+published_at text =
+    read_on (number_at (2 ^ 32 - 1) text) (λ number. option_map (λ name. Published number.0 name) (name_at number.1))
 
 unfoldable pub refused_at : List ℕ → Option LoadLine
-refused_at text = read_on (number_at (2 ^ 32 - 1) text) (λ place. option_map (λ refusal. Refused place.0 refusal.0 refusal.1) (refusal_at place.1))
+refused_at text =
+    read_on (number_at (2 ^ 32 - 1) text)
+    (λ place. option_map (λ refusal. Refused place.0 refusal.0 refusal.1) (refusal_at place.1))
 
 unfoldable pub data_full_at : ℕ → List ℕ → Option LoadLine
 data_full_at place text =
-    read_on (number_at (2 ^ 32 - 1) text) (λ left. option_map (λ need. DataFull place left.0 need) (last_number (2 ^ 32 - 1) left.1))
+    read_on (number_at (2 ^ 32 - 1) text)
+    (λ left. option_map (λ need. DataFull place left.0 need) (last_number (2 ^ 32 - 1) left.1))
 
 unfoldable pub unpublished_for : ℕ → List ℕ → List ℕ → Option LoadLine
 unpublished_for place cause text =
     if bytes_eq cause (codes "DataFull") then data_full_at place text
     else (if bytes_eq cause (codes "NoPage") then at_end text (NoPage place)
-    else (if bytes_eq cause (codes "ChainFull") then option_map (λ pages. ChainFull place pages) (last_number (2 ^ 32 - 1) text)
-    else (if bytes_eq cause (codes "LogFull") then option_map (λ front. LogFull place front) (last_number (2 ^ 32 - 1) text)
+    else (if bytes_eq cause (codes "ChainFull") then option_map (λ pages. ChainFull place pages)
+    (last_number (2 ^ 32 - 1) text)
+    else (if bytes_eq cause (codes "LogFull") then option_map (λ front. LogFull place front)
+    (last_number (2 ^ 32 - 1) text)
     else None)))
 
 unfoldable pub unpublished_at : List ℕ → Option LoadLine
-unpublished_at text = read_on (number_at (2 ^ 32 - 1) text) (λ place. read_on (word_at place.1) (λ cause. unpublished_for place.0 cause.0 cause.1))
+unpublished_at text =
+    read_on (number_at (2 ^ 32 - 1) text)
+    (λ place. read_on (word_at place.1) (λ cause. unpublished_for place.0 cause.0 cause.1))
 
 unfoldable pub withdrawn_as : List ℕ → ℕ → Option WithdrawLine
 withdrawn_as word number =
@@ -190,7 +214,8 @@ withdrawn_as word number =
     else None)))
 
 unfoldable pub withdraw_answer_at : List ℕ → Option WithdrawLine
-withdraw_answer_at text = read_on (word_at text) (λ word. read_on (last_number (2 ^ 32 - 1) word.1) (λ number. withdrawn_as word.0 number))
+withdraw_answer_at text =
+    read_on (word_at text) (λ word. read_on (last_number (2 ^ 32 - 1) word.1) (λ number. withdrawn_as word.0 number))
 
 unfoldable pub withdraw_at : List ℕ → Option Line
 withdraw_at text =
@@ -202,7 +227,8 @@ withdraw_at text =
 unfoldable pub search_as : ℕ → List ℕ → List ℕ → List ℕ → Option Line
 search_as line file word text =
     if bytes_eq word (codes "front") then option_map (λ front. Search line file front) (last_number (2 ^ 32 - 1) text)
-    else (if bytes_eq word (codes "refused") then option_map (λ refusal. NotRead line file refusal.0 refusal.1) (refusal_at text)
+    else (if bytes_eq word (codes "refused") then option_map (λ refusal. NotRead line file refusal.0 refusal.1)
+    (refusal_at text)
     else None)
 
 unfoldable pub search_at : List ℕ → Option Line
@@ -232,7 +258,9 @@ publish_at text =
     option_map (λ name. Publish loader.0 atoms.0 bonds.0 name) (name_at bonds.1))))
 
 unfoldable pub withdrawn_at : List ℕ → Option LogLine
-withdrawn_at text = read_on (number_at 255 text) (λ loader. option_map (λ number. Withdrawn loader.0 number) (last_number (2 ^ 32 - 1) loader.1))
+withdrawn_at text =
+    read_on (number_at 255 text)
+    (λ loader. option_map (λ number. Withdrawn loader.0 number) (last_number (2 ^ 32 - 1) loader.1))
 
 unfoldable pub logged_as : List ℕ → List ℕ → Option LogLine
 logged_as word text =
@@ -258,7 +286,8 @@ answer_as word text =
 unfoldable pub short_as : List ℕ → List ℕ → Option Line
 short_as word text =
     if bytes_eq word (codes "loaded") then option_map (λ count. Loaded count) (last_number (2 ^ 32 - 1) text)
-    else (if bytes_eq word (codes "overbudget") then option_map (λ budget. OverBudget budget) (last_number (2 ^ 64 - 1) text)
+    else (if bytes_eq word (codes "overbudget") then option_map (λ budget. OverBudget budget)
+    (last_number (2 ^ 64 - 1) text)
     else (if bytes_eq word (codes "log") then option_map (λ count. Log count) (last_number (2 ^ 32 - 1) text)
     else (if bytes_eq word (codes "end") then at_end text End
     else option_map (λ answer. Answer answer) (answer_as word text))))

@@ -1,6 +1,7 @@
 // The lines of a load, after their first word.
 ghost use Rattle.std.specs.Prelude.{◌≡◌, IfOk};
-ghost use Rattle.report_lines.specs.Reader.{answer_as, data_full_at, load_at, published_at, refused_at, unpublished_at, unpublished_for};
+ghost use Rattle.report_lines.specs.Reader.{answer_as, data_full_at, load_at, published_at, refused_at, unpublished_at};
+ghost use Rattle.report_lines.specs.Reader.{unpublished_for};
 
 use crate::Line;
 use crate::values::{file_name, last_name, last_refusal, next_file};

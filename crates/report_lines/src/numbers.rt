@@ -4,8 +4,8 @@ ghost use Rattle.report_lines.specs.Reader.{numeral};
 
 use itoa::Buffer;
 
-/// The number that the word writes in decimal digits without leading zeros, where it is at most `most`; `None` exactly where there
-/// is no such number.
+/// The number that the word writes in decimal digits without leading zeros, where it is at most `most`; `None` exactly
+/// where there is no such number.
 pub fn number_of(word: &[u8], most: u64) -> Option<u64>
     ensures value { result ≡ numeral most word.now }
     ensures range { IfSome result (λ n. n ≤ most) }

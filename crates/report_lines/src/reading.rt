@@ -14,11 +14,12 @@ use crate::words::{cut_word, last_number, last_u32};
 use htss_defs::OutOfMemory;
 use std::alloc::Global;
 
-/// The line of these bytes, which stand before its LF, or `None` exactly where no line of a report has them. It is an `Err` only
-/// where memory runs out.
+/// The line of these bytes, which stand before its LF, or `None` exactly where no line of a report has them. It is an
+/// `Err` only where memory runs out.
 pub fn read_line(alloc: Global, text: &[u8]) -> Result<Option<Line>, OutOfMemory>
     ensures some { IfOk result (λ read. IfSome read (λ line. IsLine line × (line_text line ≡ text.now ++ 10 ∷ []))) }
-    ensures none { IfOk result (λ read. read ≡ None → (line : Line) → IsLine line → line_text line ≢ text.now ++ 10 ∷ []) }
+    ensures none { IfOk result
+        (λ read. read ≡ None → (line : Line) → IsLine line → line_text line ≢ text.now ++ 10 ∷ []) }
 {
     line_of(alloc, text)
 }

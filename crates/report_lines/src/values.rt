@@ -2,7 +2,8 @@
 ghost use Rattle.std.specs.Prelude.{◌≡◌, ◌≢◌, ℕ, ◌<◌, [], ◌∷◌, length, slice_index, IfOk, IfSome, IfNone, option_map};
 ghost use Rattle.std.specs.Str.{IsUtf8};
 ghost use Rattle.htss_defs.specs.FileName.{IsFileName};
-ghost use Rattle.report_lines.specs.Reader.{coded_at, file_at, is_file_name, is_only, name_at, named, parts_of, place_of, places_of, refusal_at};
+ghost use Rattle.report_lines.specs.Reader.{coded_at, file_at, is_file_name, is_only, name_at, named, parts_of};
+ghost use Rattle.report_lines.specs.Reader.{place_of, places_of, refusal_at};
 
 use crate::numbers::number_of;
 use crate::words::{after_label, next_number, next_word};

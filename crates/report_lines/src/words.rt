@@ -1,6 +1,8 @@
 // Words, labels and numbers at the front of a text, each after a space.
-ghost use Rattle.std.specs.Prelude.{◌≡◌, ℕ, ◌-◌, ◌^◌, ◌<◌, ◌≤◌, length, slice_index, true, false, option_map, IfSome, IfNone};
-ghost use Rattle.report_lines.specs.Reader.{is_visible, label_at, labelled_at, last_number, number_at, word_at, word_back, word_front};
+ghost use Rattle.std.specs.Prelude.{◌≡◌, ℕ, ◌-◌, ◌^◌, ◌<◌, ◌≤◌, length, slice_index, true, false, option_map, IfSome};
+ghost use Rattle.std.specs.Prelude.{IfNone};
+ghost use Rattle.report_lines.specs.Reader.{is_visible, label_at, labelled_at, last_number, number_at, word_at};
+ghost use Rattle.report_lines.specs.Reader.{word_back, word_front};
 
 use crate::numbers::number_of;
 

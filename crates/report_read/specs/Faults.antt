@@ -21,9 +21,11 @@ lines_of report = cut_lines (report_text report)
 abbrev pub BeginsAlike : List (List ℕ) → ℕ → Report → Type 0
 BeginsAlike lines number report = IsInGrammar report × (take (number - 1) (lines_of report) ≡ take (number - 1) lines)
 
--- the first line that no report has there that has the lines before it; one more than there are where the bytes end too early
+-- the first line that no report has there that has the lines before it; one more than there are where the bytes end too
+-- early
 pub record IsFirstFault (lines : List (List ℕ)) (number : ℕ) : Type 0 where
   pub within : (1 ≤ number) × (number ≤ length lines + 1)
   pub begun : Report
   pub before : BeginsAlike lines number begun
-  pub here : (report : Report) → BeginsAlike lines number report → slice_get (lines_of report) (number - 1) ≡ slice_get lines (number - 1) → ⊥
+  pub here : (report : Report) → BeginsAlike lines number report → slice_get (lines_of report) (number - 1)
+      ≡ slice_get lines (number - 1) → ⊥

@@ -3,7 +3,8 @@ use Rattle.std.specs.Prelude.{◌≡◌, ℕ, ◌+◌, ◌≤◌, List, [], ◌�
 use Rattle.std.specs.List.{flat_map}
 use Rattle.htss_defs.specs.FileName.{IsFileName}
 use Rattle.report_lines.specs.Lines.{IsLine, line_text}
-use Rattle.report_text.specs.Values.{AreShapeNumbers, IsBlock, IsHitLine, IsInGrammar, IsLoadLine, IsLogLine, IsU32, IsU64}
+use Rattle.report_text.specs.Values.{AreShapeNumbers, IsBlock, IsHitLine, IsInGrammar, IsLoadLine, IsLogLine, IsU32}
+use Rattle.report_text.specs.Values.{IsU64}
 use Rattle.report_lines.specs.declared.line.Line.{Line}
 use Rattle.report_read.specs.Stages.{Begun, Stage, Fresh, Between, Loading, Searching, Logging, Ended, lines_to, step}
 
@@ -26,7 +27,8 @@ abbrev pub IsStage : Stage → Type 0
 IsStage Fresh = Unit {0}
 IsStage (Between begun) = IsBegun begun
 IsStage (Loading begun line file answers) = IsBegun begun × IsU32 line × IsFileName file × All IsLoadLine answers
-IsStage (Searching begun line file at hits) = IsBegun begun × IsU32 line × IsFileName file × IsU32 at × All IsHitLine hits
+IsStage (Searching begun line file at hits) = IsBegun begun × IsU32 line × IsFileName file × IsU32 at
+    × All IsHitLine hits
 IsStage (Logging begun count events) = IsBegun begun × IsU32 count × All IsLogLine events × (length events ≤ count)
 IsStage (Ended report) = IsInGrammar report
 

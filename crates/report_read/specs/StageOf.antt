@@ -2,7 +2,8 @@
 use Rattle.std.specs.Prelude.{Option, None, Some}
 use Rattle.report_read.specs.declared.state.Begun.{Begun as Held}
 use Rattle.report_read.specs.declared.state.State.{State}
-use Rattle.report_read.specs.declared.state.State.TheVariants.{Fresh as NoLine, Between as AtBlock, Loading as AtAnswer, Searching as AtHit, Logging as AtEvent, Ended as AtEnd}
+use Rattle.report_read.specs.declared.state.State.TheVariants.{Fresh as NoLine, Between as AtBlock, Loading as AtAnswer}
+use Rattle.report_read.specs.declared.state.State.TheVariants.{Searching as AtHit, Logging as AtEvent, Ended as AtEnd}
 use Rattle.report_read.specs.Stages.{Begun, Stage, Fresh, Between, Loading, Searching, Logging, Ended}
 
 abbrev pub begun_of : Held → Begun

@@ -22,8 +22,8 @@ pub struct ReportRefusal {
     pub line: u64,
 }
 
-/// The report of these bytes, which have fewer than 2^32 lines, or where they leave off to be one. Writing what was read gives
-/// the same bytes, and reading what was written the same report.
+/// The report of these bytes, which have fewer than 2^32 lines, or where they leave off to be one. Writing what was
+/// read gives the same bytes, and reading what was written the same report.
 pub fn read_report(
     alloc: Global,
     bytes: &[u8],

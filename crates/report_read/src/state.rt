@@ -2,7 +2,8 @@
 ghost use Rattle.std.specs.Prelude.{◌≡◌, Some, IfOk};
 ghost use Rattle.report_text.specs.ReportText.{is_published, published_count};
 ghost use Rattle.report_lines.specs.declared.line.Line.TheVariants.{Load, Log, Search};
-ghost use Rattle.report_read.specs.Stages.{after_answer, after_block, after_event, after_fresh, after_hit, step, with_block};
+ghost use Rattle.report_read.specs.Stages.{after_answer, after_block, after_event, after_fresh, after_hit, step};
+ghost use Rattle.report_read.specs.Stages.{with_block};
 ghost use Rattle.report_read.specs.StageOf.{begun_of, maybe_stage, stage_of};
 
 use htss_defs::{FileName, Hit, OutOfMemory, Shape};

@@ -41,7 +41,8 @@ abbrev pub done_block : Done → Block
 done_block done = block_of done.dealt.job.line done.answer
 
 abbrev pub done_lines : Done → List Line
-done_lines done = map (λ answer. record { group = done.dealt.group; caller = done.dealt.caller; answer = answer }) (answers_of done.answer)
+done_lines done = map (λ answer. record { group = done.dealt.group; caller = done.dealt.caller; answer = answer })
+    (answers_of done.answer)
 
 -- the budget of a search that has this one of its own, or none
 abbrev pub budget_or : ℕ → Option ℕ → ℕ
@@ -51,31 +52,39 @@ budget_or budget (Some own) = own
 -- the file's query is refused so, or read so and searched for under this budget
 abbrev pub IsSearchFor : List ℕ → ℕ → SearchAnswer → Type 0
 IsSearchFor bytes budget (not_read line code) = IsFirstQueryOutcome bytes (Err (record { line = line; code = code }))
-IsSearchFor bytes budget (hits_at asked own front hits rows records) = IsFirstQueryOutcome bytes (Ok asked) × (own ≡ budget)
+IsSearchFor bytes budget (hits_at asked own front hits rows records) = IsFirstQueryOutcome bytes (Ok asked)
+    × (own ≡ budget)
 IsSearchFor bytes budget (over_at asked own front) = IsFirstQueryOutcome bytes (Ok asked) × (own ≡ budget)
 
 -- the answer is one to the order: to each record of its file in turn, or to the query of its file
 abbrev pub IsAnswerTo : Option (List ℕ) → ℕ → Order → JobAnswer → Type 0
-IsAnswerTo (Some bytes) budget (order.Load file) (loaded named answers) = (named ≡ file) × IsRecordList bytes (map outcome_of answers)
+IsAnswerTo (Some bytes) budget (order.Load file) (loaded named answers) = (named ≡ file)
+    × IsRecordList bytes (map outcome_of answers)
 IsAnswerTo bytes budget (order.Withdraw number) (withdrew named answer) = named ≡ number
-IsAnswerTo (Some bytes) budget (order.Search file own) (searched named answer) = (named ≡ file) × IsSearchFor bytes (budget_or budget own) answer
+IsAnswerTo (Some bytes) budget (order.Search file own) (searched named answer) = (named ≡ file)
+    × IsSearchFor bytes (budget_or budget own) answer
 IsAnswerTo _ budget _ _ = ⊥
 
 -- the same by the files of the script's lines
 abbrev pub IsByItsFile : List (ℕ × List ℕ) → ℕ → Done → Type 0
 IsByItsFile files budget done = IsAnswerTo (bytes_at files done.dealt.job.line) budget done.dealt.job.order done.answer
 
--- the blocks tell of this history: each job of the script has one, in order, each line keeps its rule, and each event is named by one
-pub record IsToldBy (script : List Group) (files : List (ℕ × List ℕ)) (shape : Shape) (budget : ℕ) (history : List Event) (blocks : List Block) : Type 0 where
+-- the blocks tell of this history: each job of the script has one, in order, each line keeps its rule, and each event
+-- is named by one
+pub record IsToldBy (script : List Group) (files : List (ℕ × List ℕ)) (shape : Shape) (budget : ℕ)
+    (history : List Event) (blocks : List Block) : Type 0 where
   pub done : List Done
   pub jobs : map (λ one. one.dealt) done ≡ dealt shape 1 script
   pub by_files : All (IsByItsFile files budget) done
   pub blocks_are : blocks ≡ map done_block done
-  pub rules : (earlier later : List Line) (line : Line) → flat_map done_lines done ≡ earlier ++ line ∷ later → KeepsRule shape history earlier line
-  pub named : (number : ℕ) → 1 ≤ number → number ≤ length history → Contains (flat_map (λ line. own_number line.answer) (flat_map done_lines done)) number
+  pub rules : (earlier later : List Line) (line : Line) → flat_map done_lines done ≡ earlier ++ line ∷ later
+      → KeepsRule shape history earlier line
+  pub named : (number : ℕ) → 1 ≤ number → number ≤ length history
+      → Contains (flat_map (λ line. own_number line.answer) (flat_map done_lines done)) number
 
 -- the report is one of its own log, for the script, the files of its lines, the shape and the budget
-pub record IsReport (script : List Group) (files : List (ℕ × List ℕ)) (shape : Shape) (budget : ℕ) (report : Report) : Type 0 where
+pub record IsReport (script : List Group) (files : List (ℕ × List ℕ)) (shape : Shape) (budget : ℕ)
+    (report : Report) : Type 0 where
   pub in_grammar : IsInGrammar report
   pub in_limits : IsShape shape
   pub shape_is : report.shape ≡ shape

@@ -1,5 +1,6 @@
 -- The rules that the lines of a report keep (this project's own).
-use Rattle.std.specs.Prelude.{◌≡◌, ◌≢◌, ℕ, ◌+◌, ◌*◌, ◌/◌, ◌<◌, ◌≤◌, List, ◌++◌, length, take, All, sum_by, Bool, false, ◌==◌, if◌then◌else◌}
+use Rattle.std.specs.Prelude.{◌≡◌, ◌≢◌, ℕ, ◌+◌, ◌*◌, ◌/◌, ◌<◌, ◌≤◌, List, ◌++◌, length, take, All, sum_by, Bool, false}
+use Rattle.std.specs.Prelude.{◌==◌, if◌then◌else◌}
 use Rattle.htss_defs.specs.declared.history.Event.{Event}
 use Rattle.htss_defs.specs.declared.history.Event.TheVariants.{Publish, Withdraw}
 use Rattle.htss_defs.specs.declared.record.NamedMol.{NamedMol}
@@ -31,13 +32,15 @@ marks line = numbers_of line.answer ++ fronts_of line.answer
 
 -- ---- what a mark owes to the lines before it
 
--- a new event comes after all that its loader's earlier lines and all lines of earlier groups carry, and no line has it yet
+-- a new event comes after all that its loader's earlier lines and all lines of earlier groups carry, and no line has it
+-- yet
 pub record IsNew (earlier : List Line) (line : Line) (number : ℕ) : Type 0 where
   pub loader : All (λ one. one.caller ≡ line.caller → All (λ mark. mark < number) (marks one)) earlier
   pub groups : All (λ one. one.group < line.group → All (λ mark. mark < number) (marks one)) earlier
   pub once : All (λ one. All (λ own. own ≢ number) (own_number one.answer)) earlier
 
--- a front that refuses is no shorter than the log at the end of the group before, and than what its loader's earlier lines carry
+-- a front that refuses is no shorter than the log at the end of the group before, and than what its loader's earlier
+-- lines carry
 pub record IsRefusingFront (earlier : List Line) (line : Line) (front : ℕ) : Type 0 where
   pub loader : All (λ one. one.caller ≡ line.caller → All (λ mark. mark ≤ front) (marks one)) earlier
   pub groups : All (λ one. one.group < line.group → All (λ own. own ≤ front) (own_number one.answer)) earlier
@@ -100,7 +103,8 @@ KeepsWithdrawal shape history earlier line number (NoEntry front) =
 abbrev pub KeepsSearch : List Event → List Line → Line → SearchAnswer → Type 0
 KeepsSearch history earlier line (not_read at code) = Unit {0}
 KeepsSearch history earlier line (hits_at asked budget front hits rows records) =
-    (front ≤ length history) × IsReply asked budget (take front history) (found hits) × Counts asked (take front history) records
+    (front ≤ length history) × IsReply asked budget (take front history) (found hits)
+    × Counts asked (take front history) records
     × IsSearchFront earlier line front
 KeepsSearch history earlier line (over_at asked budget front) =
     (front ≤ length history) × IsReply asked budget (take front history) over_budget × IsSearchFront earlier line front
@@ -108,7 +112,8 @@ KeepsSearch history earlier line (over_at asked budget front) =
 abbrev pub KeepsAnswer : Shape → List Event → List Line → Line → Answer → Type 0
 KeepsAnswer shape history earlier line (to_record (not_accepted at code)) = Unit {0}
 KeepsAnswer shape history earlier line (to_record (taken one fate)) = KeepsFate shape history earlier line one fate
-KeepsAnswer shape history earlier line (to_withdrawal number answer) = KeepsWithdrawal shape history earlier line number answer
+KeepsAnswer shape history earlier line (to_withdrawal number answer) =
+    KeepsWithdrawal shape history earlier line number answer
 KeepsAnswer shape history earlier line (to_search answer) = KeepsSearch history earlier line answer
 
 -- the line keeps its rule in this history, after these lines

@@ -10,7 +10,8 @@ use Rattle.report_text.specs.declared.report.Report.{Report}
 use Rattle.report_text.specs.declared.report.Block.{Block}
 use Rattle.report_text.specs.declared.report.Block.TheVariants.{Load, Withdraw, Search}
 use Rattle.report_text.specs.declared.report.LoadLine.{LoadLine}
-use Rattle.report_text.specs.declared.report.LoadLine.TheVariants.{Published, Refused, DataFull, NoPage, ChainFull, LogFull}
+use Rattle.report_text.specs.declared.report.LoadLine.TheVariants.{Published, Refused, DataFull, NoPage, ChainFull}
+use Rattle.report_text.specs.declared.report.LoadLine.TheVariants.{LogFull}
 use Rattle.report_text.specs.declared.report.WithdrawLine.{WithdrawLine}
 use Rattle.report_text.specs.declared.report.WithdrawLine.TheVariants.{At, Unknown, Gone, LogFull as NoEntry}
 use Rattle.report_text.specs.declared.report.SearchLine.{SearchLine}
@@ -20,13 +21,16 @@ use Rattle.report_text.specs.declared.report.LogLine.TheVariants.{Publish, Withd
 
 -- the first line
 unfoldable pub callers_text : Shape → List ℕ
-callers_text shape = codes " loaders" ++ spaced shape.loaders ++ codes " searchers" ++ spaced shape.searchers ++ codes " pages" ++ spaced shape.pages
+callers_text shape = codes " loaders" ++ spaced shape.loaders ++ codes " searchers" ++ spaced shape.searchers
+    ++ codes " pages" ++ spaced shape.pages
 
 unfoldable pub sizes_text : Shape → List ℕ
-sizes_text shape = codes " room" ++ spaced shape.room ++ codes " log" ++ spaced shape.log ++ codes " chain" ++ spaced shape.chain
+sizes_text shape = codes " room" ++ spaced shape.room ++ codes " log" ++ spaced shape.log ++ codes " chain"
+    ++ spaced shape.chain
 
 unfoldable pub header_text : Shape → ℕ → List ℕ
-header_text shape budget = codes "htss 1" ++ callers_text shape ++ sizes_text shape ++ codes " budget" ++ spaced budget ++ 10 ∷ []
+header_text shape budget = codes "htss 1" ++ callers_text shape ++ sizes_text shape ++ codes " budget" ++ spaced budget
+    ++ 10 ∷ []
 
 -- what a job with a file begins with
 unfoldable pub job_text : List ℕ → ℕ → List ℕ → List ℕ
@@ -72,7 +76,8 @@ abbrev pub published_count : List LoadLine → ℕ
 published_count answers = count_by is_published answers
 
 unfoldable pub load_text : ℕ → List ℕ → List LoadLine → List ℕ
-load_text line file answers = job_text (codes "load") line file ++ 10 ∷ [] ++ flat_map load_line answers ++ loaded_line (published_count answers)
+load_text line file answers = job_text (codes "load") line file ++ 10 ∷ [] ++ flat_map load_line answers
+    ++ loaded_line (published_count answers)
 
 -- the line of a withdrawal
 abbrev pub withdraw_line : WithdrawLine → List ℕ
@@ -89,7 +94,8 @@ unfoldable pub front_text : ℕ → List ℕ
 front_text front = codes " front" ++ spaced front ++ 10 ∷ []
 
 unfoldable pub hits_end : ℕ → ℕ → ℕ → List ℕ
-hits_end count rows records = codes "hits" ++ spaced count ++ codes " rows" ++ spaced rows ++ codes " records" ++ spaced records ++ 10 ∷ []
+hits_end count rows records = codes "hits" ++ spaced count ++ codes " rows" ++ spaced rows ++ codes " records"
+    ++ spaced records ++ 10 ∷ []
 
 unfoldable pub hits_part : ℕ → List Hit → ℕ → ℕ → List ℕ
 hits_part front hits rows records = front_text front ++ flat_map hit_line hits ++ hits_end (length hits) rows records
@@ -116,7 +122,8 @@ block_text (Search line file answer) = search_text line file answer
 
 -- the log: what follows on the number of an event
 unfoldable pub publish_part : ℕ → ℕ → ℕ → List ℕ → List ℕ
-publish_part loader atoms bonds name = codes " publish" ++ spaced loader ++ spaced atoms ++ spaced bonds ++ name_text name
+publish_part loader atoms bonds name = codes " publish" ++ spaced loader ++ spaced atoms ++ spaced bonds
+    ++ name_text name
 
 unfoldable pub withdraw_part : ℕ → ℕ → List ℕ
 withdraw_part loader number = codes " withdraw" ++ spaced loader ++ spaced number
@@ -142,4 +149,5 @@ log_text events = log_count_line (length events) ++ events_from 1 events ++ code
 
 -- the whole report
 unfoldable pub report_text : Report → List ℕ
-report_text report = header_text report.shape report.budget ++ flat_map block_text report.blocks ++ log_text report.events
+report_text report = header_text report.shape report.budget ++ flat_map block_text report.blocks
+    ++ log_text report.events

@@ -6,7 +6,8 @@ use Rattle.htss_defs.specs.Name.{IsName}
 use Rattle.report_text.specs.declared.report.Block.{Block}
 use Rattle.report_text.specs.declared.report.Block.TheVariants.{Load, Withdraw, Search}
 use Rattle.report_text.specs.declared.report.LoadLine.{LoadLine}
-use Rattle.report_text.specs.declared.report.LoadLine.TheVariants.{Published, Refused, DataFull, NoPage, ChainFull, LogFull}
+use Rattle.report_text.specs.declared.report.LoadLine.TheVariants.{Published, Refused, DataFull, NoPage, ChainFull}
+use Rattle.report_text.specs.declared.report.LoadLine.TheVariants.{LogFull}
 use Rattle.report_text.specs.declared.report.SearchLine.{SearchLine}
 use Rattle.report_text.specs.declared.report.SearchLine.TheVariants.{Hits, OverBudget, Refused as QueryRefused}
 use Rattle.report_text.specs.Values.{IsU16, IsU32, IsU64, IsWithdrawLine}

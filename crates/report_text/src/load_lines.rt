@@ -2,7 +2,8 @@
 ghost use Rattle.std.specs.Prelude.{◌≡◌, ◌++◌, ◌∷◌, [], OnOk, OnErr};
 ghost use Rattle.std.specs.List.{flat_map};
 ghost use Rattle.hit_report.specs.Appends.{KeepsFront};
-ghost use Rattle.report_text.specs.ReportText.{data_full_line, full_line, load_line, load_text, no_page_line, published_line, unpublished_part, published_count, loaded_line};
+ghost use Rattle.report_text.specs.ReportText.{data_full_line, full_line, load_line, load_text, no_page_line};
+ghost use Rattle.report_text.specs.ReportText.{published_line, unpublished_part, published_count, loaded_line};
 
 use crate::LoadLine;
 use crate::parts::{append_end, append_job, append_labelled};

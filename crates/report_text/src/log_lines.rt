@@ -1,7 +1,8 @@
 // The log, and the last line.
 ghost use Rattle.std.specs.Prelude.{◌≡◌, ◌++◌, ◌∷◌, [], OnOk, OnErr};
 ghost use Rattle.hit_report.specs.Appends.{KeepsFront};
-ghost use Rattle.report_text.specs.ReportText.{event_line, events_from, log_count_line, log_text, publish_part, withdraw_part, event_part};
+ghost use Rattle.report_text.specs.ReportText.{event_line, events_from, log_count_line, log_text, publish_part};
+ghost use Rattle.report_text.specs.ReportText.{withdraw_part, event_part};
 
 use crate::LogLine;
 use crate::parts::{append_end, append_labelled};

@@ -1,7 +1,8 @@
 // The block of a search.
 ghost use Rattle.std.specs.Prelude.{◌≡◌, ◌++◌, ◌∷◌, [], OnOk, OnErr};
 ghost use Rattle.hit_report.specs.Appends.{KeepsFront};
-ghost use Rattle.report_text.specs.ReportText.{front_text, hits_end, hits_part, over_part, refused_part, search_part, search_text};
+ghost use Rattle.report_text.specs.ReportText.{front_text, hits_end, hits_part, over_part, refused_part, search_part};
+ghost use Rattle.report_text.specs.ReportText.{search_text};
 ghost use Rattle.hit_report.specs.HitLines.{hit_line};
 ghost use Rattle.std.specs.List.{flat_map};
 

@@ -1,5 +1,6 @@
 -- Marks on the bonds of a forest, and the shortcuts over those that are marked.
-use Rattle.std.specs.Prelude.{◌≡◌, ◌≢◌, ◌↔◌, ◌⊎◌, ℕ, IsTrue, ◌-◌, ◌<◌, ◌≤◌, List, Bool, true, false, Some, slice_get, slice_index, slice_index_or, slice_set}
+use Rattle.std.specs.Prelude.{◌≡◌, ◌≢◌, ◌↔◌, ◌⊎◌, ℕ, IsTrue, ◌-◌, ◌<◌, ◌≤◌, List, Bool, true, false, Some, slice_get}
+use Rattle.std.specs.Prelude.{slice_index, slice_index_or, slice_set}
 use Rattle.htss_defs.specs.declared.graph.Ends.{Ends}
 use Rattle.htss_defs.specs.Graph.{Graph, IsRingBond}
 use Rattle.ring_bonds.specs.declared.forest.Forest.{Forest}

@@ -1,5 +1,6 @@
 -- The search in breadth that finds a forest: the places seen so far stand in a queue.
-use Rattle.std.specs.Prelude.{◌≡◌, ◌⊎◌, ℕ, zero, suc, ◌+◌, ◌-◌, ◌<◌, ◌≤◌, List, [], ◌∷◌, Some, slice_get, slice_index, slice_set}
+use Rattle.std.specs.Prelude.{◌≡◌, ◌⊎◌, ℕ, zero, suc, ◌+◌, ◌-◌, ◌<◌, ◌≤◌, List, [], ◌∷◌, Some, slice_get, slice_index}
+use Rattle.std.specs.Prelude.{slice_set}
 use Rattle.htss_defs.specs.declared.graph.Ends.{Ends}
 use Rattle.htss_defs.specs.Graph.{Graph}
 use Rattle.htss_defs.specs.Adjacency.{JoinsAt}

@@ -8,8 +8,8 @@ ghost use Rattle.ring_bonds.specs.QueryFlags.{AreSet, HasGraph};
 use crate::marking::ring_flags;
 use htss_defs::{Adjacency, Query, QueryAtom, QueryBond, are_ends};
 
-/// The query of these lists, each flag set to whether the bond is a ring bond, or `None` exactly where they break a rule of
-/// queries. It takes no memory.
+/// The query of these lists, each flag set to whether the bond is a ring bond, or `None` exactly where they break a
+/// rule of queries. It takes no memory.
 pub fn marked_query(atoms: Vec<QueryAtom>, bonds: Vec<QueryBond>) -> Option<Query>
     ensures some { IsSome result ↔ IsQuery (record { atoms = atoms.items; bonds = bonds.items }) }
     ensures value { IfSome result (λ q.

@@ -25,12 +25,14 @@ pub record HasPrinted (shape : Shape) (done : List Done) (i : ℕ) (a : Account)
   pub who : a.who ≡ caller_after shape i
   pub entries : entries_in a ≡ printed (lines_by (caller_at shape i) (flat_map done_lines done))
 
--- the text is a run's; each record that took words of its loader's region had room there; the history of the report's rules is that of
--- the board that was closed, and the text prints its log; and each caller's account, which is true of that history, of the room that it
--- has left and of the pages, has what the caller's lines print, and nothing else. A line tells that no page was left, or that a chain
--- was full, only where the shape is small for the atoms that were loaded. A searcher's account, which comes after those of the loaders,
--- has loaded nothing past its last answer; what it has loaded for each search is pruned; and the rows that its lines print are those
-pub record IsRunOf (told : Option (List File)) (script : List ℕ) (shape : Shape) (budget : ℕ) (text : List ℕ) (last : Closing) : Type 0 where
+-- the text is a run's; each record that took words of its loader's region had room there; the history of the report's
+-- rules is that of the board that was closed, and the text prints its log; and each caller's account, which is true of
+-- that history, of the room that it has left and of the pages, has what the caller's lines print, and nothing else. A
+-- line tells that no page was left, or that a chain was full, only where the shape is small for the atoms that were
+-- loaded. A searcher's account, which comes after those of the loaders, has loaded nothing past its last answer; what
+-- it has loaded for each search is pruned; and the rows that its lines print are those
+pub record IsRunOf (told : Option (List File)) (script : List ℕ) (shape : Shape) (budget : ℕ) (text : List ℕ)
+    (last : Closing) : Type 0 where
   pub run : IsRunText told script shape budget text
   pub rooms : HaveHadRoom shape (flat_map done_lines run.is_report.told.done)
   pub pages : ArePagesEnough shape (flat_map done_lines run.is_report.told.done)
@@ -48,9 +50,11 @@ pub record IsRunOf (told : Option (List File)) (script : List ℕ) (shape : Shap
 abbrev pub IsLastOf : Option (List File) → List ℕ → Shape → ℕ → SinkSeen → SinkSeen → ℕ → Option Closing → Type 0
 IsLastOf told script shape budget out out_now status None = status ≢ 0
 IsLastOf told script shape budget out out_now status (Some last) =
-    (status ≡ 0) × (text : List ℕ) × IsRunOf told script shape budget text last × (out_now.written ≡ append_known out.written text)
+    (status ≡ 0) × (text : List ℕ) × IsRunOf told script shape budget text last
+    × (out_now.written ≡ append_known out.written text)
 
 -- the same for every task: only a run answers a board
 abbrev pub HasLast : Option Task → ShelfSeen → SinkSeen → SinkSeen → ℕ → Option Closing → Type 0
-HasLast (Some (run_of script shape budget)) shelf out out_now status last = IsLastOf shelf.told script shape budget out out_now status last
+HasLast (Some (run_of script shape budget)) shelf out out_now status last =
+    IsLastOf shelf.told script shape budget out out_now status last
 HasLast task shelf out out_now status last = last ≡ None

@@ -12,4 +12,5 @@ pub record HaveGoneAndHeard (k : Shape) (first last : List Account) : Type 0 whe
   pub between : List Account
   pub gone : HaveGoneOn k first between
   pub count : length last ≡ length between
-  pub heard : (i : ℕ) (a b : Account) → get_elem? between i ≡ some a → get_elem? last i ≡ some b → (front : ℕ) × (a.log.seen ≤ front) × (b ≡ with_seen front a)
+  pub heard : (i : ℕ) (a b : Account) → get_elem? between i ≡ some a → get_elem? last i ≡ some b → (front : ℕ)
+      × (a.log.seen ≤ front) × (b ≡ with_seen front a)

@@ -17,7 +17,8 @@ use Rattle.board_core.specs.Histories.{history_of}
 use Rattle.board_jobs.specs.Groups.{AreGroupsDone, AreNew, GroupIsDone}
 use Rattle.board_jobs.specs.Ends.{IsEnd}
 use Rattle.outside.specs.Files.{File, file_limit}
-pub use Rattle.script_files.specs.JobFiles.{RisesFrom, lines_of_jobs, AreRising, IsAfter, AreOnlyFor, AreWithin, HaveFiles, StopsAmong}
+pub use Rattle.script_files.specs.JobFiles.{RisesFrom, lines_of_jobs, AreRising, IsAfter, AreOnlyFor, AreWithin}
+pub use Rattle.script_files.specs.JobFiles.{HaveFiles, StopsAmong}
 use Rattle.command_words.specs.Tasks.{run_of}
 use Rattle.command_ends.specs.Outcomes.{Why}
 use Rattle.command_ends.specs.Ends.{MayStop, ShelfSeen}
@@ -34,8 +35,10 @@ abbrev pub with_header : List ℕ → Shape → ℕ → List ℕ
 with_header [] shape budget = header_text shape budget
 with_header (byte ∷ bytes) shape budget = byte ∷ bytes
 
--- these groups are done, from the accounts of a new board to these, and their blocks, whose values are of their types, are the text
-pub record HasDone (told : Option (List File)) (groups : List Group) (shape : Shape) (budget : ℕ) (accounts : List Account) (text : List ℕ) : Type 0 where
+-- these groups are done, from the accounts of a new board to these, and their blocks, whose values are of their types,
+-- are the text
+pub record HasDone (told : Option (List File)) (groups : List Group) (shape : Shape) (budget : ℕ)
+    (accounts : List Account) (text : List ℕ) : Type 0 where
   pub files : List (ℕ × List ℕ)
   pub have : HaveFiles told files (jobs_of groups)
   pub new : List Account
@@ -65,4 +68,5 @@ StopsAtEnd shape accounts Stop = (history : List Event) → HasEnd shape account
 -- a group is done, whatever its number, and these are its blocks
 abbrev pub IsGroupDone : Shape → List (ℕ × List ℕ) → ℕ → Group → List Account → List Account → List Block → Type 0
 IsGroupDone shape files budget group before after blocks =
-    (number : ℕ) → (front : ℕ) × (done : List Done) × GroupIsDone shape files budget number group before after front done × (blocks ≡ map done_block done)
+    (number : ℕ) → (front : ℕ) × (done : List Done)
+    × GroupIsDone shape files budget number group before after front done × (blocks ≡ map done_block done)

@@ -8,9 +8,9 @@ use Rattle.board_core.specs.Answers.{answers_in}
 use Rattle.board.specs.Closed.{Closing, IsShown}
 use Rattle.board_jobs.specs.Reading.{AreRead}
 
--- some words show the history of the closed board and have what each caller has loaded. By these words the names, atoms and
--- bonds that a searcher has loaded for each of its searches are those of records that are live and screened among the events
--- of its front, and where it has hits, all of these. Searchers come after the loaders
+-- some words show the history of the closed board and have what each caller has loaded. By these words the names, atoms
+-- and bonds that a searcher has loaded for each of its searches are those of records that are live and screened among
+-- the events of its front, and where it has hits, all of these. Searchers come after the loaders
 pub record HaveSearched (shape : Shape) (last : Closing) : Type 0 where
   pub shape_is : last.shape ≡ shape
   pub shown : IsShown last

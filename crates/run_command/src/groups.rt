@@ -62,7 +62,8 @@ pub fn run_groups<'a, R: Threads + Wait + Sync, F: Shelf>(
     Ok(())
 }
 
-// Reads the files of a group, does its jobs and appends their blocks, after the first line where the group is the first.
+// Reads the files of a group, does its jobs and appends their blocks, after the first line where the group is the
+// first.
 fn do_group<'a, R: Threads + Wait + Sync, F: Shelf>(
     rt: &R,
     alloc: Global,
@@ -80,7 +81,8 @@ fn do_group<'a, R: Threads + Wait + Sync, F: Shelf>(
     ensures done { OnOk result ((before after : List Group) (script : List ℕ)
         → ScriptWasRead (F.told shelf.old) script (before ++ group.now ∷ after)
         → HasDone (F.told shelf.old) before board.now.shape budget (accounts_of workers.old) text.old.items
-        → HasDone (F.told shelf.old) (before ++ group.now ∷ []) board.now.shape budget (accounts_of workers.new) text.new.items) }
+        → HasDone (F.told shelf.old) (before ++ group.now ∷ []) board.now.shape budget
+        (accounts_of workers.new) text.new.items) }
     ensures stop { IfErr result (λ stop. (before after : List Group)
         → HasDone (F.told shelf.old) before board.now.shape budget (accounts_of workers.old) text.old.items
         → StopsAtEnd board.now.shape (accounts_of workers.new)
@@ -112,10 +114,12 @@ fn append_group<R: Threads + Wait + Sync>(
     requires callers { AreCallers board.now (callers_of workers.old) }
     ensures callers { AreCallers board.now (callers_of workers.new) }
     ensures done { OnOk result ((blocks : List Block)
-        × IsGroupDone board.now.shape files.now budget group.now (accounts_of workers.old) (accounts_of workers.new) blocks
+        × IsGroupDone board.now.shape files.now budget group.now (accounts_of workers.old)
+        (accounts_of workers.new) blocks
         × (text.new.items ≡ with_header text.old.items board.now.shape budget ++ flat_map block_text blocks)
         × All IsTypedBlock blocks) }
-    ensures broken { OnErr result (HaveGoneAndHeard board.now.shape (accounts_of workers.old) (accounts_of workers.new)) }
+    ensures broken { OnErr result
+        (HaveGoneAndHeard board.now.shape (accounts_of workers.old) (accounts_of workers.new)) }
     ensures front { OnErr result ((text.new.items ≡ text.old.items)
         ⊎ (text.new.items ≡ with_header text.old.items board.now.shape budget)) }
 {

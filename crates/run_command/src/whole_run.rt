@@ -24,9 +24,10 @@ use std::alloc::Global;
 use std::sync::Wait;
 use std::thread::Threads;
 
-/// Runs the script of this name on a board of this shape, with its callers in threads, and answers the status: 0, 3 where it is no
-/// script, 4 where a read failed, 5 where a write failed, 6 where memory ran out, 7 where a file is absent, 8 where it is too large.
-/// A search without a budget of its own has this one. At status 0 the board that was closed is answered too.
+/// Runs the script of this name on a board of this shape, with its callers in threads, and answers the status: 0, 3
+/// where it is no script, 4 where a read failed, 5 where a write failed, 6 where memory ran out, 7 where a file is
+/// absent, 8 where it is too large. A search without a budget of its own has this one. At status 0 the board that was
+/// closed is answered too.
 pub fn run<R: Threads + Wait + Sync, F: Shelf, K: Sink>(
     rt: &R,
     alloc: Global,

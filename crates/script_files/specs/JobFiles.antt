@@ -26,7 +26,8 @@ IsAfter jobs line = All (λ job. job.line < line) jobs
 
 -- files stand for lines of these jobs alone
 abbrev pub AreOnlyFor : List (ℕ × List ℕ) → List Job → Type 0
-AreOnlyFor files jobs = (line : ℕ) (bytes : List ℕ) → bytes_at files line ≡ Some bytes → Contains (lines_of_jobs jobs) line
+AreOnlyFor files jobs = (line : ℕ) (bytes : List ℕ) → bytes_at files line ≡ Some bytes
+    → Contains (lines_of_jobs jobs) line
 
 -- none of the files has more bytes than a file may have
 abbrev pub AreWithin : List (ℕ × List ℕ) → Type 0

@@ -1,5 +1,6 @@
 // The files of jobs, read whole.
-ghost use Rattle.std.specs.Prelude.{◌≡◌, ℕ, ◌≤◌, List, [], ◌∷◌, ◌++◌, ◌==◌, Some, All, OnOk, IfOk, IfErr, if◌then◌else◌};
+ghost use Rattle.std.specs.Prelude.{◌≡◌, ℕ, ◌≤◌, List, [], ◌∷◌, ◌++◌, ◌==◌, Some, All, OnOk, IfOk, IfErr};
+ghost use Rattle.std.specs.Prelude.{if◌then◌else◌};
 ghost use Rattle.outside.specs.Files.{WasRead};
 ghost use Rattle.script_text.specs.declared.script.Job.{Job};
 ghost use Rattle.script_text.specs.FilesByLine.{bytes_at};

@@ -41,32 +41,40 @@ HasPassed before places after = after ≡ passed_more before places
 
 -- a front of these places more
 abbrev pub HasPassedFront : Option (List Place) → List Place → Option (List Place) → Type 0
-HasPassedFront before places after = (front : List Place) × (rest : List Place) × (front ++ rest ≡ places) × HasPassed before front after
+HasPassedFront before places after = (front : List Place) × (rest : List Place) × (front ++ rest ≡ places)
+    × HasPassed before front after
 
 -- the gate of the caller with this account has passed the places of its own jobs
 abbrev pub PassedOwn : Shape → List Job → Who → Option (List Place) → Option (List Place) → Type 0
-PassedOwn k jobs who before after = (caller : Caller) → who_of caller ≡ who → HasPassed before (own_places k jobs caller) after
+PassedOwn k jobs who before after = (caller : Caller) → who_of caller ≡ who
+    → HasPassed before (own_places k jobs caller) after
 
 -- or a front of them
 abbrev pub PassedFront : Shape → List Job → Who → Option (List Place) → Option (List Place) → Type 0
-PassedFront k jobs who before after = (caller : Caller) → who_of caller ≡ who → HasPassedFront before (own_places k jobs caller) after
+PassedFront k jobs who before after = (caller : Caller) → who_of caller ≡ who
+    → HasPassedFront before (own_places k jobs caller) after
 
 -- all of them where it did all of its jobs
 abbrev pub Passed : Shape → List Job → Who → Option (List Place) → Option (List Place) → Bool → Type 0
-Passed k jobs who before after whole = MatchBool whole (PassedOwn k jobs who before after) (PassedFront k jobs who before after)
+Passed k jobs who before after whole = MatchBool whole (PassedOwn k jobs who before after)
+    (PassedFront k jobs who before after)
 
 -- each worker's gate
-abbrev pub AllPassed : {G : Type 0} → (G → Option (List Place)) → Shape → List Job → List (Worker G) → List (Worker G) → List Outcome → Type 0
+abbrev pub AllPassed : {G : Type 0} → (G → Option (List Place)) → Shape → List Job → List (Worker G) → List (Worker G)
+    → List Outcome → Type 0
 AllPassed tells k jobs [] [] [] = Unit {0}
 AllPassed tells k jobs (w ∷ ws) (v ∷ vs) (outcome ∷ outcomes) =
-    Passed k jobs w.caller.account.who (tells w.gate) (tells v.gate) outcome.whole × AllPassed tells k jobs ws vs outcomes
+    Passed k jobs w.caller.account.who (tells w.gate) (tells v.gate) outcome.whole
+    × AllPassed tells k jobs ws vs outcomes
 AllPassed tells k jobs _ _ _ = ⊥
 
 -- the gate of the worker at each place has passed before and after each job that is dealt to this caller
-abbrev pub GatesPassed : {G : Type 0} → (G → Option (List Place)) → Shape → List Job → List (Worker G) → List (Worker G) → Type 0
+abbrev pub GatesPassed : {G : Type 0} → (G → Option (List Place)) → Shape → List Job → List (Worker G) → List (Worker G)
+    → Type 0
 GatesPassed {G} tells k jobs ws vs = (i : ℕ) (w v : Worker G) → get_elem? ws i ≡ some w → get_elem? vs i ≡ some v
     → HasPassed (tells w.gate) (own_places k jobs (caller_at k i)) (tells v.gate)
 
-abbrev pub GatesPassedFront : {G : Type 0} → (G → Option (List Place)) → Shape → List Job → List (Worker G) → List (Worker G) → Type 0
+abbrev pub GatesPassedFront : {G : Type 0} → (G → Option (List Place)) → Shape → List Job → List (Worker G)
+    → List (Worker G) → Type 0
 GatesPassedFront {G} tells k jobs ws vs = (i : ℕ) (w v : Worker G) → get_elem? ws i ≡ some w → get_elem? vs i ≡ some v
     → HasPassedFront (tells w.gate) (own_places k jobs (caller_at k i)) (tells v.gate)

@@ -30,7 +30,8 @@ pub record IsWorker (b : Place) (c : Seated) : Type 0 where
 -- the caller has done its own of these jobs, whatever the group's number, and has these blocks of them
 abbrev pub DidJobs : Shape → List (ℕ × List ℕ) → ℕ → List Job → Account → Account → List Block → Type 0
 DidJobs k files budget jobs a b blocks = (number : ℕ) (caller : Caller) → who_of caller ≡ a.who
-    → (own : List Done) × OwnDone k files budget caller a b (dealt_from k number 0 0 jobs) own × (blocks ≡ map done_block own)
+    → (own : List Done) × OwnDone k files budget caller a b (dealt_from k number 0 0 jobs) own
+    × (blocks ≡ map done_block own)
 
 -- memory ran out in the job
 abbrev pub JobBroke : Shape → List (ℕ × List ℕ) → ℕ → Account → Account → Job → Type 0
@@ -38,21 +39,27 @@ JobBroke k files budget a b job = (caller : Caller) → who_of caller ≡ a.who 
 
 -- memory ran out, when the caller had done its own of the first of these jobs, whatever the group's number
 abbrev pub Broke : Shape → List (ℕ × List ℕ) → ℕ → List Job → Account → Account → Type 0
-Broke k files budget jobs a b = (number : ℕ) (caller : Caller) → who_of caller ≡ a.who → OwnBroken k files budget caller a b (dealt_from k number 0 0 jobs)
+Broke k files budget jobs a b = (number : ℕ) (caller : Caller) → who_of caller ≡ a.who
+    → OwnBroken k files budget caller a b (dealt_from k number 0 0 jobs)
 
 -- the caller can go on, and did its own jobs, or ran out of memory
-pub record DidOwn (b : Place) (files : List (ℕ × List ℕ)) (budget : ℕ) (jobs : List Job) (c d : Seated) (outcome : Outcome) : Type 0 where
+pub record DidOwn (b : Place) (files : List (ℕ × List ℕ)) (budget : ℕ) (jobs : List Job) (c d : Seated)
+    (outcome : Outcome) : Type 0 where
   pub can : CanWork b d
   pub who : d.account.who ≡ c.account.who
-  pub did : MatchBool outcome.whole (DidJobs b.shape files budget jobs c.account d.account outcome.blocks.items) (Broke b.shape files budget jobs c.account d.account)
+  pub did : MatchBool outcome.whole (DidJobs b.shape files budget jobs c.account d.account outcome.blocks.items)
+      (Broke b.shape files budget jobs c.account d.account)
 
 -- each worker did its own
 abbrev pub DidAll : Place → List (ℕ × List ℕ) → ℕ → List Job → List Seated → List Seated → List Outcome → Type 0
 DidAll b files budget jobs [] [] [] = Unit {0}
-DidAll b files budget jobs (c ∷ cs) (d ∷ ds) (outcome ∷ outcomes) = DidOwn b files budget jobs c d outcome × DidAll b files budget jobs cs ds outcomes
+DidAll b files budget jobs (c ∷ cs) (d ∷ ds) (outcome ∷ outcomes) = DidOwn b files budget jobs c d outcome
+    × DidAll b files budget jobs cs ds outcomes
 DidAll b files budget jobs _ _ _ = ⊥
 
 -- memory ran out in a group, whatever its number: each caller had done its own of the first jobs
-pub record GroupIsBroken (k : Shape) (files : List (ℕ × List ℕ)) (budget : ℕ) (group : Group) (first last : List Account) : Type 0 where
+pub record GroupIsBroken (k : Shape) (files : List (ℕ × List ℕ)) (budget : ℕ) (group : Group)
+    (first last : List Account) : Type 0 where
   pub count : length last ≡ length first
-  pub each : (i : ℕ) (a b : Account) → get_elem? first i ≡ some a → get_elem? last i ≡ some b → (number : ℕ) → OwnBroken k files budget (caller_at k i) a b (dealt_group k number group)
+  pub each : (i : ℕ) (a b : Account) → get_elem? first i ≡ some a → get_elem? last i ≡ some b → (number : ℕ)
+      → OwnBroken k files budget (caller_at k i) a b (dealt_group k number group)

@@ -52,10 +52,10 @@ fn are_whole(outcomes: &[Outcome]) -> bool
     true
 }
 
-/// Does the jobs of the group, each worker its own beside the others, and answers their blocks in the order of the jobs. The files
-/// have the bytes of each job's file by its line; a search without a budget of its own has the given one. When all jobs are done
-/// the workers have met. An `Err` is want of memory: what was done before stays, each worker's first jobs and what it had begun of the
-/// next.
+/// Does the jobs of the group, each worker its own beside the others, and answers their blocks in the order of the
+/// jobs. The files have the bytes of each job's file by its line; a search without a budget of its own has the given
+/// one. When all jobs are done the workers have met. An `Err` is want of memory: what was done before stays, each
+/// worker's first jobs and what it had begun of the next.
 pub fn run_group<R: Threads + Wait + Sync, G: Gate + Send>(
     rt: &R,
     alloc: Global,
@@ -69,14 +69,18 @@ pub fn run_group<R: Threads + Wait + Sync, G: Gate + Send>(
     requires files { All (λ job. IsThere files.now job.line job.order) group.now.jobs }
     ensures callers { AreCallers board.now (callers_of workers.new) }
     ensures done { IfOk result (λ blocks. (number : ℕ) → (front : ℕ) × (done : List Done)
-        × GroupIsDone board.now.shape files.now budget number group.now (accounts_of workers.old) (accounts_of workers.new) front done
+        × GroupIsDone board.now.shape files.now budget number group.now (accounts_of workers.old)
+        (accounts_of workers.new) front done
         × (blocks.items ≡ map done_block done)) }
-    ensures broken { IfErr result (λ _. HaveGoneOn board.now.shape (accounts_of workers.old) (accounts_of workers.new)) }
-    ensures begun { IfErr result (λ _. GroupIsBroken board.now.shape files.now budget group.now (accounts_of workers.old) (accounts_of workers.new)) }
+    ensures broken { IfErr result
+        (λ _. HaveGoneOn board.now.shape (accounts_of workers.old) (accounts_of workers.new)) }
+    ensures begun { IfErr result (λ _. GroupIsBroken board.now.shape files.now budget group.now
+        (accounts_of workers.old) (accounts_of workers.new)) }
 
-    // A searcher that had loaded nothing since its last answer has loaded nothing since its last one now, and what it has loaded for each
-    // search is pruned.
-    ensures pruned { IfOk result (λ _. SearchersStayPruned board.now.shape (accounts_of workers.old) (accounts_of workers.new)) }
+    // A searcher that had loaded nothing since its last answer has loaded nothing since its last one now, and what it
+    // has loaded for each search is pruned.
+    ensures pruned { IfOk result
+        (λ _. SearchersStayPruned board.now.shape (accounts_of workers.old) (accounts_of workers.new)) }
 
     // For each of these searches it has loaded names, atoms and bonds of screened records alone, and where it has hits,
     // all of each of these.
@@ -85,7 +89,8 @@ pub fn run_group<R: Threads + Wait + Sync, G: Gate + Send>(
 
     // Each worker's gate was told where it stood before and after each of its jobs, and nothing else.
     ensures gates { IfOk result (λ _. GatesPassed G.passed board.now.shape group.now.jobs workers.old workers.new) }
-    ensures gates_broken { IfErr result (λ _. GatesPassedFront G.passed board.now.shape group.now.jobs workers.old workers.new) }
+    ensures gates_broken { IfErr result
+        (λ _. GatesPassedFront G.passed board.now.shape group.now.jobs workers.old workers.new) }
 {
     let mut outcomes = no_outcomes(alloc, workers.len())?;
     work_all(

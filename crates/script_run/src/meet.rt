@@ -10,7 +10,8 @@ use board::{Board, Caller, hear, note};
 fn hear_all<G>(board: &Board, caller: &mut Caller, others: &mut [Worker<G>])
     requires fits { IsOf board.now caller.old }
     requires others { All (IsOf board.now) (map (λ w. w.caller) others.old) }
-    ensures after { (most : ℕ) × IsMostSeen caller.old.account.log.seen (map (λ w. w.caller) others.old) most × (caller.new ≡ seen_at most caller.old) }
+    ensures after { (most : ℕ) × IsMostSeen caller.old.account.log.seen (map (λ w. w.caller) others.old) most
+        × (caller.new ≡ seen_at most caller.old) }
     ensures same { map (λ w. w.caller) others.new ≡ map (λ w. w.caller) others.old }
     ensures gates { map (λ w. w.gate) others.new ≡ map (λ w. w.gate) others.old }
 {
@@ -26,7 +27,8 @@ fn tell_all<G>(board: &Board, caller: &mut Caller, others: &mut [Worker<G>])
     requires others { All (IsOf board.now) (map (λ w. w.caller) others.old) }
     requires most { All (λ c. c.account.log.seen ≤ caller.old.account.log.seen) (map (λ w. w.caller) others.old) }
     ensures same { caller.new ≡ caller.old }
-    ensures after { map (λ w. w.caller) others.new ≡ map (seen_at caller.old.account.log.seen) (map (λ w. w.caller) others.old) }
+    ensures after { map (λ w. w.caller) others.new ≡ map (seen_at caller.old.account.log.seen)
+        (map (λ w. w.caller) others.old) }
     ensures gates { map (λ w. w.gate) others.new ≡ map (λ w. w.gate) others.old }
 {
     for other in others.iter_mut() {

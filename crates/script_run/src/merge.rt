@@ -31,7 +31,8 @@ pub fn merge(
     requires shape { IsShape shape }
     requires count { length outcomes.old ≡ shape.loaders + shape.searchers }
     requires queues { AreQueues (places_from shape 0 0 group.now.jobs) (map (λ o. o.blocks.items) outcomes.old) }
-    ensures { IfOk result (λ blocks. IsMerged (places_from shape 0 0 group.now.jobs) (map (λ o. o.blocks.items) outcomes.old) blocks.items) }
+    ensures { IfOk result (λ blocks. IsMerged (places_from shape 0 0 group.now.jobs)
+        (map (λ o. o.blocks.items) outcomes.old) blocks.items) }
 {
     let jobs = group.jobs.as_slice();
     let mut blocks = Vec::new(alloc);

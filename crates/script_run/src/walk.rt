@@ -6,7 +6,8 @@ ghost use Rattle.board_jobs.specs.Answering.{who_of};
 ghost use Rattle.board_jobs.specs.Jobs.{IsThere, IsJobDone};
 ghost use Rattle.board_jobs.specs.Calls.{IsOrderOf};
 ghost use Rattle.script_run.specs.Walking.{CanWork, IsWorker, DidJobs, JobBroke, Broke, DidOwn, DidAll};
-ghost use Rattle.script_run.specs.Passing.{before_job, around_job, HasPassed, PassedOwn, PassedFront, Passed, AllPassed};
+ghost use Rattle.script_run.specs.Passing.{before_job, around_job, HasPassed, PassedOwn, PassedFront, Passed};
+ghost use Rattle.script_run.specs.Passing.{AllPassed};
 
 use crate::dealing::{Count, counted, has_job, is_own, jobs_in};
 use crate::gate::{Gate, Place, Worker};
@@ -45,7 +46,8 @@ fn do_own<R: Wait, G: Gate>(
     ensures who { worker.new.caller.account.who ≡ worker.old.caller.account.who }
     ensures done { IfOk result (λ block. (c : ScriptCaller) → who_of c ≡ worker.old.caller.account.who
         → IsJobDone board.now.shape files.now budget c worker.old.caller.account worker.new.caller.account job.now block) }
-    ensures broken { IfErr result (λ _. JobBroke board.now.shape files.now budget worker.old.caller.account worker.new.caller.account job.now) }
+    ensures broken { IfErr result
+        (λ _. JobBroke board.now.shape files.now budget worker.old.caller.account worker.new.caller.account job.now) }
     ensures passed { IfOk result (λ _. (c : ScriptCaller) → who_of c ≡ worker.old.caller.account.who
         → HasPassed (G.passed worker.old.gate) (around_job c job.now.line) (G.passed worker.new.gate)) }
     ensures stopped { IfErr result (λ _. (c : ScriptCaller) → who_of c ≡ worker.old.caller.account.who
@@ -94,9 +96,12 @@ fn do_all<R: Wait, G: Gate>(
     ensures can { CanWork board.now worker.new.caller }
     ensures who { worker.new.caller.account.who ≡ worker.old.caller.account.who }
     ensures done { OnOk result (DidJobs board.now.shape files.now budget group.now.jobs worker.old.caller.account worker.new.caller.account blocks.new.items) }
-    ensures broken { OnErr result (Broke board.now.shape files.now budget group.now.jobs worker.old.caller.account worker.new.caller.account) }
-    ensures passed { OnOk result (PassedOwn board.now.shape group.now.jobs worker.old.caller.account.who (G.passed worker.old.gate) (G.passed worker.new.gate)) }
-    ensures stopped { OnErr result (PassedFront board.now.shape group.now.jobs worker.old.caller.account.who (G.passed worker.old.gate) (G.passed worker.new.gate)) }
+    ensures broken { OnErr result
+        (Broke board.now.shape files.now budget group.now.jobs worker.old.caller.account worker.new.caller.account) }
+    ensures passed { OnOk result (PassedOwn board.now.shape group.now.jobs worker.old.caller.account.who
+        (G.passed worker.old.gate) (G.passed worker.new.gate)) }
+    ensures stopped { OnErr result (PassedFront board.now.shape group.now.jobs worker.old.caller.account.who
+        (G.passed worker.old.gate) (G.passed worker.new.gate)) }
 {
     let shape = board.shape();
     let jobs = group.jobs.as_slice();
@@ -115,8 +120,8 @@ fn do_all<R: Wait, G: Gate>(
     Ok(())
 }
 
-// Does the jobs of the group that are dealt to this worker. It stands apart from the halving, so that each level of that takes little
-// of a stack.
+// Does the jobs of the group that are dealt to this worker. It stands apart from the halving, so that each level of
+// that takes little of a stack.
 #[inline(never)]
 fn work<R: Wait, G: Gate>(
     rt: &R,
@@ -131,7 +136,8 @@ fn work<R: Wait, G: Gate>(
     requires worker { IsWorker board.now worker.old.caller }
     requires files { All (λ job. IsThere files.now job.line job.order) group.now.jobs }
     ensures did { DidOwn board.now files.now budget group.now.jobs worker.old.caller worker.new.caller outcome.new }
-    ensures gate { Passed board.now.shape group.now.jobs worker.old.caller.account.who (G.passed worker.old.gate) (G.passed worker.new.gate) outcome.new.whole }
+    ensures gate { Passed board.now.shape group.now.jobs worker.old.caller.account.who (G.passed worker.old.gate)
+        (G.passed worker.new.gate) outcome.new.whole }
 {
     let mut blocks = VecDeque::new(alloc);
     let done = do_all(rt, alloc, board, worker, group, files, budget, &mut blocks);
@@ -155,7 +161,8 @@ pub fn work_all<R: Threads + Wait + Sync, G: Gate + Send>(
     requires workers { All (IsWorker board.now) (map (λ w. w.caller) workers.old) }
     requires files { All (λ job. IsThere files.now job.line job.order) group.now.jobs }
     requires count { length outcomes.old ≡ length workers.old }
-    ensures did { DidAll board.now files.now budget group.now.jobs (map (λ w. w.caller) workers.old) (map (λ w. w.caller) workers.new) outcomes.new }
+    ensures did { DidAll board.now files.now budget group.now.jobs (map (λ w. w.caller) workers.old)
+        (map (λ w. w.caller) workers.new) outcomes.new }
     ensures gates { AllPassed G.passed board.now.shape group.now.jobs workers.old workers.new outcomes.new }
 {
     let jobs = jobs_in(group);
@@ -174,7 +181,8 @@ fn are_idle<G>(workers: &[Worker<G>], jobs: Count) -> bool {
     true
 }
 
-// One half of the workers beside the other, or before it where one of them has nothing to do. What is lent to both threads comes by reference: what they write is known only then.
+// One half of the workers beside the other, or before it where one of them has nothing to do. What is lent to both
+// threads comes by reference: what they write is known only then.
 fn work_halves<R: Threads + Wait + Sync, G: Gate + Send>(
     rt: &R,
     alloc: &Global,
@@ -189,7 +197,8 @@ fn work_halves<R: Threads + Wait + Sync, G: Gate + Send>(
     requires workers { All (IsWorker board.now) (map (λ w. w.caller) workers.old) }
     requires files { All (λ job. IsThere files.now job.line job.order) group.now.jobs }
     requires count { length outcomes.old ≡ length workers.old }
-    ensures did { DidAll board.now files.now budget.now group.now.jobs (map (λ w. w.caller) workers.old) (map (λ w. w.caller) workers.new) outcomes.new }
+    ensures did { DidAll board.now files.now budget.now group.now.jobs (map (λ w. w.caller) workers.old)
+        (map (λ w. w.caller) workers.new) outcomes.new }
     ensures gates { AllPassed G.passed board.now.shape group.now.jobs workers.old workers.new outcomes.new }
 {
     if workers.len() < 2 {
@@ -210,14 +219,16 @@ fn work_halves<R: Threads + Wait + Sync, G: Gate + Send>(
         rt,
         &mut ||
             requires { IsSync R.row × IsSend G.row × All (IsWorker board.now) (map (λ w. w.caller) front.now)
-                × All (λ job. IsThere files.now job.line job.order) group.now.jobs × (length first.now ≡ length front.now) }
+                × All (λ job. IsThere files.now job.line job.order) group.now.jobs
+                × (length first.now ≡ length front.now) }
             ensures { DidAll board.entry.now files.entry.now budget.entry.now group.entry.now.jobs
                 (map (λ w. w.caller) front.entry.now) (map (λ w. w.caller) front.exit.now) first.exit.now
                 × AllPassed G.passed board.entry.now.shape group.entry.now.jobs front.entry.now front.exit.now first.exit.now }
         { work_halves(rt, alloc, board, front, group, files, budget, jobs, first) },
         &mut ||
             requires { IsSync R.row × IsSend G.row × All (IsWorker board.now) (map (λ w. w.caller) back.now)
-                × All (λ job. IsThere files.now job.line job.order) group.now.jobs × (length last.now ≡ length back.now) }
+                × All (λ job. IsThere files.now job.line job.order) group.now.jobs
+                × (length last.now ≡ length back.now) }
             ensures { DidAll board.entry.now files.entry.now budget.entry.now group.entry.now.jobs
                 (map (λ w. w.caller) back.entry.now) (map (λ w. w.caller) back.exit.now) last.exit.now
                 × AllPassed G.passed board.entry.now.shape group.entry.now.jobs back.entry.now back.exit.now last.exit.now }

@@ -1,5 +1,6 @@
 -- The generated file of records (this project's own).
-use Rattle.std.specs.Prelude.{◌≡◌, ℕ, zero, suc, ◌+◌, ◌-◌, ◌*◌, ◌/◌, ◌%◌, ◌^◌, List, [], ◌∷◌, ◌++◌, Option, ◌==◌, nat_le, nat_lt, if◌then◌else◌, decimal}
+use Rattle.std.specs.Prelude.{◌≡◌, ℕ, zero, suc, ◌+◌, ◌-◌, ◌*◌, ◌/◌, ◌%◌, ◌^◌, List, [], ◌∷◌, ◌++◌, Option, ◌==◌}
+use Rattle.std.specs.Prelude.{nat_le, nat_lt, if◌then◌else◌, decimal}
 use Rattle.std.specs.List.{flat_map}
 use Rattle.std.specs.Io.KnownBytes.{append_known}
 use lib.Chars.{codes}
@@ -35,7 +36,11 @@ abbrev pub grown : ℕ → ℕ → Grown
 grown i state =
     if nat_lt i 9
     then (record { number = i; letter = letter (drawn (next_state state)); parent = i - 1 })
-    else (record { number = i; letter = letter (drawn (next_state state)); parent = drawn_parent i (drawn (next_state (next_state state))) })
+    else (record {
+      number = i;
+      letter = letter (drawn (next_state state));
+      parent = drawn_parent i (drawn (next_state (next_state state)));
+    })
 
 -- the state after it
 abbrev pub grown_state : ℕ → ℕ → ℕ

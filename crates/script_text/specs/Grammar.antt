@@ -1,5 +1,6 @@
 -- What a line of a script says (this project's own).
-use Rattle.std.specs.Prelude.{ℕ, ◌^◌, List, [], ◌∷◌, length, Option, Some, None, Bool, false, ◌&&◌, ◌||◌, ◌==◌, nat_le, nat_lt, if◌then◌else◌}
+use Rattle.std.specs.Prelude.{ℕ, ◌^◌, List, [], ◌∷◌, length, Option, Some, None, Bool, false, ◌&&◌, ◌||◌, ◌==◌, nat_le}
+use Rattle.std.specs.Prelude.{nat_lt, if◌then◌else◌}
 use Rattle.std.specs.List.{list_all}
 use Rattle.std.specs.Str.{bytes_eq}
 use Rattle.std.specs.Str.Parse.{digits_value}
@@ -30,7 +31,8 @@ is_numeral most word = nat_le 1 (length word) && (nat_le (length word) most && l
 
 -- the value of 1 to so many digits, leading zeros allowed, where it is below the limit
 unfoldable pub number_below : ℕ → ℕ → List ℕ → Option ℕ
-number_below most limit word = if is_numeral most word && nat_lt (digits_value 10 word) limit then Some (digits_value 10 word) else None
+number_below most limit word = if is_numeral most word && nat_lt (digits_value 10 word) limit then Some
+    (digits_value 10 word) else None
 
 -- the line that asks for the withdrawal of a number, if it is one
 abbrev pub withdrawal : Option ℕ → Saying

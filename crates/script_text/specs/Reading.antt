@@ -1,5 +1,6 @@
 -- How far a script is read.
-use Rattle.std.specs.Prelude.{◌≡◌, ℕ, ◌+◌, ◌≤◌, List, [], ◌∷◌, ◌++◌, length, take, drop, Option, Some, None, Bool, true, false, nat_lt, if◌then◌else◌}
+use Rattle.std.specs.Prelude.{◌≡◌, ℕ, ◌+◌, ◌≤◌, List, [], ◌∷◌, ◌++◌, length, take, drop, Option, Some, None, Bool, true}
+use Rattle.std.specs.Prelude.{false, nat_lt, if◌then◌else◌}
 use Rattle.script_text.specs.declared.script.Job.{Job}
 use Rattle.script_text.specs.declared.script.Group.{Group}
 use Rattle.script_text.specs.declared.saying.Saying.{Saying}
@@ -20,7 +21,12 @@ progress_after number Settles before =
     Some (record { count = before.count; ended = before.ended ++ record { jobs = before.jobs } ∷ []; jobs = [] })
 progress_after number (Asks order) before =
     if nat_lt before.count 65536
-    then Some (record { count = before.count + 1; ended = before.ended; jobs = before.jobs ++ record { line = number; order = order } ∷ [] })
+    then Some (record {
+      count = before.count + 1;
+      ended = before.ended;
+      jobs = before.jobs
+          ++ record { line = number; order = order } ∷ [];
+    })
     else None
 
 -- the progress, where the line was taken

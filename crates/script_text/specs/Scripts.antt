@@ -1,5 +1,6 @@
 -- Which lines are a script, and its groups (this project's own).
-use Rattle.std.specs.Prelude.{◌≡◌, ℕ, ◌+◌, ◌-◌, ◌≤◌, List, [], ◌∷◌, length, take, filter, Bool, true, false, not, ◌&&◌, nat_le}
+use Rattle.std.specs.Prelude.{◌≡◌, ℕ, ◌+◌, ◌-◌, ◌≤◌, List, [], ◌∷◌, length, take, filter, Bool, true, false, not, ◌&&◌}
+use Rattle.std.specs.Prelude.{nat_le}
 use Rattle.std.specs.List.{list_all}
 use Rattle.script_text.specs.declared.script.Job.{Job}
 use Rattle.script_text.specs.declared.script.Group.{Group}
@@ -24,7 +25,8 @@ count_jobs lines = length (filter (λ line. is_job (says line)) lines)
 unfoldable pub is_sound : List (List ℕ) → Bool
 is_sound lines = list_all (λ line. not (is_wrong (says line))) lines && nat_le (count_jobs lines) 65536
 
--- the line of this number, counted from 1, is the first at fault: the lines before it are sound, and with it they are not
+-- the line of this number, counted from 1, is the first at fault: the lines before it are sound, and with it they are
+-- not
 pub record IsFirstFault (lines : List (List ℕ)) (number : ℕ) : Type 0 where
   pub within : (1 ≤ number) × (number ≤ length lines)
   pub sound : is_sound (take (number - 1) lines) ≡ true
@@ -42,7 +44,8 @@ with_line number Settles groups = record { jobs = [] } ∷ groups
 with_line number Passed groups = groups
 with_line number Wrong groups = groups
 
--- the groups of lines of which the first has this number: the jobs between lines `settle`, one group more than there are such lines
+-- the groups of lines of which the first has this number: the jobs between lines `settle`, one group more than there
+-- are such lines
 abbrev pub groups_from : ℕ → List (List ℕ) → List Group
 groups_from number [] = record { jobs = [] } ∷ []
 groups_from number (line ∷ lines) = with_line number (says line) (groups_from (number + 1) lines)

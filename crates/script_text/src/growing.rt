@@ -1,6 +1,7 @@
 // The trees that stand on the rings of generated records.
 ghost use Rattle.std.specs.Prelude.{◌≡◌, ◌≤◌, ◌<◌, ◌^◌};
-ghost use Rattle.script_text.specs.Generator.{drawn, drawn_parent, grown, grown_state, letter, next_state, tree_of, after_tree};
+ghost use Rattle.script_text.specs.Generator.{drawn, drawn_parent, grown, grown_state, letter, next_state, tree_of};
+ghost use Rattle.script_text.specs.Generator.{after_tree};
 
 use arrayvec::ArrayVec;
 

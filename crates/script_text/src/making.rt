@@ -5,7 +5,8 @@ ghost use Rattle.std.specs.Io.KnownBytes.{append_known};
 ghost use Rattle.outside.specs.Causes.{Rose};
 ghost use Rattle.outside.specs.Written.{GrewByFront};
 ghost use Rattle.script_text.specs.declared.making.MakeStop.TheVariants.{WriteFault, OutOfMemory as NoMemory};
-ghost use Rattle.script_text.specs.Generator.{atom_line, bond_line, made_file, padded, record_text, ring_atoms, ring_bonds, tree_of, after_tree};
+ghost use Rattle.script_text.specs.Generator.{atom_line, bond_line, made_file, padded, record_text, ring_atoms};
+ghost use Rattle.script_text.specs.Generator.{ring_bonds, tree_of, after_tree};
 
 use crate::growing::{Grown, grow_tree};
 use htss_defs::OutOfMemory;

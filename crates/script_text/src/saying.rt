@@ -3,7 +3,8 @@ ghost use Rattle.std.specs.Prelude.{◌≡◌, ◌^◌, ◌∷◌, [], All, IfOk
 ghost use Rattle.std.specs.List.{list_all};
 ghost use Rattle.htss_defs.specs.FileName.{IsFileName};
 ghost use Rattle.mol_section.specs.Fields.{is_blank, words_of};
-ghost use Rattle.script_text.specs.Grammar.{is_comment, is_plain, is_printable, number_below, says, withdrawal, words_say};
+ghost use Rattle.script_text.specs.Grammar.{is_comment, is_plain, is_printable, number_below, says, withdrawal};
+ghost use Rattle.script_text.specs.Grammar.{words_say};
 
 use crate::Order;
 use crate::numbers::{record_number, text_of, whole_number};

@@ -19,8 +19,8 @@ use Rattle.descent.specs.Seats.{CodeLoad, load_of}
 use Rattle.descent.specs.Pruned.{IsPruned, IsLoaded, CountsLoaded}
 use Rattle.descent.specs.Walks.{IsTold}
 
--- the caller was pinned and is no more. It has loaded an epoch, codes and first words of blocks, and nothing else; it has noted rows, or
--- nothing
+-- the caller was pinned and is no more. It has loaded an epoch, codes and first words of blocks, and nothing else; it
+-- has noted rows, or nothing
 pub record Visits (a b : Account) : Type 0 where
   pub grown : Grows a b
   pub who : b.who ≡ a.who
@@ -57,14 +57,15 @@ pub record IsNeedOf (query : QueryGraph) (need : Need) : Type 0 where
   pub is_pivot : IsPivot query pivot
   pub is : need ≡ need_at query pivot
 
--- the code words that were loaded from a to b are pruned by the need of the query's pivot, whatever five codes the rows have that agree
--- with them, and so many rows were loaded
+-- the code words that were loaded from a to b are pruned by the need of the query's pivot, whatever five codes the rows
+-- have that agree with them, and so many rows were loaded
 pub record LoadsPruned (query : QueryGraph) (a b : Account) (rows : ℕ) : Type 0 where
   pub need : Need
   pub need_is : IsNeedOf query need
   pub loads : List CodeLoad
   pub loads_are : map load_of b.loads.codes ≡ map load_of a.loads.codes ++ loads
-  pub pruned : (any : ℕ → List ℕ) → ((r : ℕ) → IsLoaded loads r → length (any r) ≡ 5) → Each (IsTold any) loads → IsPruned any (CoversCode need) loads
+  pub pruned : (any : ℕ → List ℕ) → ((r : ℕ) → IsLoaded loads r → length (any r) ≡ 5) → Each (IsTold any) loads
+      → IsPruned any (CoversCode need) loads
   pub counts : CountsLoaded loads rows
 
 -- the account notes these rows as those that cover the need of the query's pivot at the front

@@ -1,5 +1,6 @@
 -- Which records a search reads: those that are screened, each of them whole and once (this project's own).
-use Rattle.std.specs.Prelude.{◌≡◌, ◌⊎◌, ℕ, zero, suc, ◌+◌, ◌-◌, ◌<◌, ◌≤◌, List, [], ◌∷◌, ◌++◌, length, map, flat_map, take, slice_index}
+use Rattle.std.specs.Prelude.{◌≡◌, ◌⊎◌, ℕ, zero, suc, ◌+◌, ◌-◌, ◌<◌, ◌≤◌, List, [], ◌∷◌, ◌++◌, length, map, flat_map}
+use Rattle.std.specs.Prelude.{take, slice_index}
 use mathlib.Core.Option.{some}
 use lib.ListN.{get_elem?}
 use Rattle.htss_defs.specs.declared.shape.Shape.{Shape}
@@ -53,7 +54,8 @@ ReadsScreened k query front a b = (p : Parts) → MayBe k p b → ReadsAt a b (I
 -- each of these numbers whose record is live is that of a screened record
 abbrev pub AreOfScreened : QueryGraph → List ℕ → List Event → Type 0
 AreOfScreened query numbers history =
-    (i : ℕ) → i < length numbers → (name : List ℕ) (mol : Molecule) → IsLive history (slice_index numbers i) name mol → IsScreened query mol
+    (i : ℕ) → i < length numbers → (name : List ℕ) (mol : Molecule) → IsLive history (slice_index numbers i) name mol
+    → IsScreened query mol
 
 -- each of these numbers is that of the event that publishes the block of one of these rows
 abbrev pub AreOfRows : Shape → Account → List Row → List ℕ → Type 0
@@ -101,7 +103,8 @@ places_from start (suc n) = start ∷ places_from (start + 1) n
 -- the places of the name, atom and bond words of a block with this first word
 abbrev pub text_places : ℕ → ℕ → List ℕ
 text_places block head =
-    places_from (block + 3) (code_words_at head - 3) ++ places_from (block + bond_words_at head) (block_size head - bond_words_at head)
+    places_from (block + 3) (code_words_at head - 3) ++ places_from (block + bond_words_at head)
+    (block_size head - bond_words_at head)
 
 -- a record that was read: its number, its block and the block's first word
 pub record RecordRead : Type 0 where
@@ -130,4 +133,5 @@ pub record ReadsInTurn (k : Shape) (a b : Account) : Type 0 where
 -- or of one record, if of any
 abbrev pub ReadsOne : Shape → ℕ → Account → Account → Type 0
 ReadsOne k number a b = (places_read b ≡ places_read a)
-    ⊎ ((r : RecordRead) × (r.number ≡ number) × IsRead k b r × (places_read b ≡ places_read a ++ text_places r.block r.head))
+    ⊎ ((r : RecordRead) × (r.number ≡ number) × IsRead k b r
+    × (places_read b ≡ places_read a ++ text_places r.block r.head))

@@ -8,8 +8,8 @@ use Rattle.board_core.specs.After.{fronted, noted, stamp_all}
 use Rattle.board_core.specs.Blocks.{code_words_at, bond_words_at, block_size}
 use Rattle.board_core.specs.Loaded.{Grows}
 
--- how much the second account has loaded past the first: so many log words and marks, so many name, atom and bond words of blocks, and
--- these first words
+-- how much the second account has loaded past the first: so many log words and marks, so many name, atom and bond words
+-- of blocks, and these first words
 pub record Loads (a b : Account) (shown marks words : ℕ) (heads : List WordLoad) : Type 0 where
   pub shown_are : length b.loads.shown ≡ length a.loads.shown + shown
   pub marks_are : length b.loads.marks ≡ length a.loads.marks + marks
@@ -20,8 +20,8 @@ pub record Loads (a b : Account) (shown marks words : ℕ) (heads : List WordLoa
 abbrev pub words_past : ℕ → ℕ
 words_past head = code_words_at head - 3 + (block_size head - bond_words_at head)
 
--- of so many numbers each log word at most once, and at most one mark and one first word for each; and of each block whose first word was
--- loaded its name, atom and bond words, each once at most
+-- of so many numbers each log word at most once, and at most one mark and one first word for each; and of each block
+-- whose first word was loaded its name, atom and bond words, each once at most
 pub record LoadsOnce (a b : Account) (numbers : ℕ) : Type 0 where
   pub shown : ℕ
   pub marks : ℕ
@@ -33,8 +33,8 @@ pub record LoadsOnce (a b : Account) (numbers : ℕ) : Type 0 where
   pub few_heads : length heads ≤ numbers
   pub few_words : words ≤ sum_by (λ h. words_past h.word) heads
 
--- the second account has loaded the front and more words than the first, and has these entries more, the rows that a search has come to
--- set aside. It was pinned and is no more
+-- the second account has loaded the front and more words than the first, and has these entries more, the rows that a
+-- search has come to set aside. It was pinned and is no more
 pub record IsSearched (a b : Account) (front : ℕ) (es : List Entry) : Type 0 where
   pub grown : Grows a b
   pub who : b.who ≡ a.who

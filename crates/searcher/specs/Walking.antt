@@ -18,7 +18,8 @@ use Rattle.board_core.specs.MarkRule.{ShowsAt}
 use Rattle.board_core.specs.Loaded.{Grows, HasFact, HasLoaded, SawMark, IsOpenMark, IsInTable}
 use Rattle.board_core.specs.Steps.{MayBe}
 
--- the second account has loaded more log words, marks and words of blocks than the first, but no codes, and differs in nothing else
+-- the second account has loaded more log words, marks and words of blocks than the first, but no codes, and differs in
+-- nothing else
 pub record Reads (a b : Account) : Type 0 where
   pub grown : Grows a b
   pub who : b.who ≡ a.who
@@ -69,21 +70,25 @@ pub record IsNumberOf (k : Shape) (a : Account) (front block number : ℕ) : Typ
 
 -- that number is among these
 abbrev pub AreNumbered : Shape → Account → ℕ → ℕ → List ℕ → Type 0
-AreNumbered k a front block numbers = (p : Parts) → MayBe k p a → (n : ℕ) → n ≤ front → ShowsAt p.log.front p.log.slots block n → Contains numbers n
+AreNumbered k a front block numbers = (p : Parts) → MayBe k p a → (n : ℕ) → n ≤ front
+    → ShowsAt p.log.front p.log.slots block n → Contains numbers n
 
 -- each screened record has one of these numbers
 abbrev pub AllScreened : QueryGraph → List ℕ → List Event → Type 0
-AllScreened query numbers history = (number : ℕ) (name : List ℕ) (mol : Molecule) → IsLive history number name mol → IsScreened query mol → Contains numbers number
+AllScreened query numbers history = (number : ℕ) (name : List ℕ) (mol : Molecule) → IsLive history number name mol
+    → IsScreened query mol → Contains numbers number
 
 -- the record of this number was taken, if there is one: what was searched before it then goes up to it
 abbrev pub Takes : ℕ → QueryGraph → (left count : ℕ) → List Hit → (left' count' : ℕ) → List Hit → List Event → Type 0
 Takes number asked left count hits left' count' hits' history =
-    (budget before : ℕ) → number ≡ before + 1 → HasSearched asked history budget left before count hits → HasSearched asked history budget left' number count' hits'
+    (budget before : ℕ) → number ≡ before + 1 → HasSearched asked history budget left before count hits
+    → HasSearched asked history budget left' number count' hits'
 
 -- or it costs more than is left
 abbrev pub Spends : ℕ → QueryGraph → (left count : ℕ) → List Hit → List Event → Type 0
 Spends number asked left count hits history =
-    (budget before : ℕ) → number ≡ before + 1 → HasSearched asked history budget left before count hits → IsOverTo asked history budget number
+    (budget before : ℕ) → number ≡ before + 1 → HasSearched asked history budget left before count hits
+    → IsOverTo asked history budget number
 
 -- the first events as they may be: they are all seen, and the reply is theirs
 pub record Replies (k : Shape) (a : Account) (query : QueryGraph) (budget front : ℕ) (reply : Reply) : Type 0 where

@@ -10,7 +10,8 @@ ghost use Rattle.board_core.specs.declared.entry.Reply.TheVariants.{Hits, OverBu
 ghost use Rattle.board_core.specs.After.{after_answer};
 ghost use Rattle.board_core.specs.Steps.{AreTrue};
 ghost use Rattle.board.specs.Seated.{IsOf, with_account};
-ghost use Rattle.searcher.specs.Records.{AreOfScreened, ReadsAllScreened, ReadsInTurn, ReadsLive, ReadsOne, ReadsOnly, ReadsScreened};
+ghost use Rattle.searcher.specs.Records.{AreOfScreened, ReadsAllScreened, ReadsInTurn, ReadsLive, ReadsOne, ReadsOnly};
+ghost use Rattle.searcher.specs.Records.{ReadsScreened};
 ghost use Rattle.searcher.specs.Searched.{IsSearched, LoadsOnce};
 ghost use Rattle.searcher.specs.Finding.{HasRead, LoadsPruned};
 ghost use Rattle.searcher.specs.Walking.{Reads, Replies, AreFound, AllScreened, Takes, Spends, Whatever};
@@ -51,7 +52,8 @@ fn note_hits(
 )
     requires fits { IsOf board.now caller.old }
     requires reply { Replies board.now.shape caller.old.account query.now budget front (found hits.now.hits) }
-    ensures { caller.new ≡ with_account caller.old (after_answer caller.old.account (Answered query.now budget front (Hits hits.now.hits) ∷ [])) }
+    ensures { caller.new ≡ with_account caller.old
+        (after_answer caller.old.account (Answered query.now budget front (Hits hits.now.hits) ∷ [])) }
 {
     note_with::<Brand>(board, caller, query, budget, front, hits);
 }
@@ -67,7 +69,8 @@ fn note_over(
 )
     requires fits { IsOf board.now caller.old }
     requires reply { Replies board.now.shape caller.old.account query.now budget front over_budget }
-    ensures { caller.new ≡ with_account caller.old (after_answer caller.old.account (Answered query.now budget front OverBudget ∷ [])) }
+    ensures { caller.new ≡ with_account caller.old
+        (after_answer caller.old.account (Answered query.now budget front OverBudget ∷ [])) }
 {
     note_with::<Brand>(board, caller, query, budget, front, hits);
 }
@@ -103,7 +106,8 @@ fn take_one(
     ensures takes { OnOk result (Whatever board.now.shape caller.new.account front
         (Takes number search.old.matcher search.old.left search.old.records hits.old.hits search.new.left search.new.records hits.new.hits)) }
     ensures over { (at : ℕ) → result ≡ Err (SearchError.OverBudget at) → (at ≡ search.old.front)
-        × Whatever board.now.shape caller.new.account front (Spends number search.old.matcher search.old.left search.old.records hits.old.hits) }
+        × Whatever board.now.shape caller.new.account front
+        (Spends number search.old.matcher search.old.left search.old.records hits.old.hits) }
 {
     let Ok(read) = load_live(alloc, board, caller, front, number, words) else {
         return Err(SearchError::OutOfMemory);
@@ -114,7 +118,8 @@ fn take_one(
     Ok(())
 }
 
-// Fills an empty list with the hits among the records of these numbers, which are in order. What it has after an error is open.
+// Fills an empty list with the hits among the records of these numbers, which are in order. What it has after an error
+// is open.
 fn fill(
     alloc: Global,
     board: &Board,
@@ -129,7 +134,8 @@ fn fill(
     requires fits { IsOf board.now caller.old }
     requires seen { caller.old.account.log.seen ≡ front }
     requires front { front ≤ board.now.shape.log }
-    requires numbers { (i : ℕ) → i < length numbers.now → (0 < slice_index numbers.now i) × (slice_index numbers.now i ≤ front) }
+    requires numbers { (i : ℕ) → i < length numbers.now → (0 < slice_index numbers.now i)
+        × (slice_index numbers.now i ≤ front) }
     requires rising { IsNonDecreasing numbers.now }
     requires all { Whatever board.now.shape caller.old.account front (AllScreened query.now numbers.now) }
     requires screened { Whatever board.now.shape caller.old.account front (AreOfScreened query.now numbers.now) }
@@ -140,10 +146,12 @@ fn fill(
     ensures once { LoadsOnce caller.old.account caller.new.account (length numbers.now) }
     ensures read { ReadsScreened board.now.shape query.now front caller.old.account caller.new.account }
     ensures turn { ReadsInTurn board.now.shape caller.old.account caller.new.account }
-    ensures whole { OnOk result (ReadsAllScreened board.now.shape query.now front caller.old.account caller.new.account) }
+    ensures whole { OnOk result
+        (ReadsAllScreened board.now.shape query.now front caller.old.account caller.new.account) }
     ensures found { OnOk result (AreFound board.now.shape caller.new.account query.now budget front hits.new) }
     ensures rows { OnOk result (hits.new.rows ≡ rows) }
-    ensures over { (at : ℕ) → result ≡ Err (SearchError.OverBudget at) → (at ≡ front) × Replies board.now.shape caller.new.account query.now budget front over_budget }
+    ensures over { (at : ℕ) → result ≡ Err (SearchError.OverBudget at) → (at ≡ front)
+        × Replies board.now.shape caller.new.account query.now budget front over_budget }
 {
     let mut search = Search::new(front, query, budget);
     let mut words = [0; 7200];
@@ -168,8 +176,8 @@ fn fill(
     Ok(())
 }
 
-// Answers at the front that was just loaded: descends, and searches the records that it has found. What the list has after an error is
-// open.
+// Answers at the front that was just loaded: descends, and searches the records that it has found. What the list has
+// after an error is open.
 fn answer(
     alloc: Global,
     board: &Board,
@@ -189,10 +197,12 @@ fn answer(
     ensures reads { HasRead caller.old.account caller.new.account }
     ensures read { ReadsScreened board.now.shape query.now front caller.old.account caller.new.account }
     ensures turn { ReadsInTurn board.now.shape caller.old.account caller.new.account }
-    ensures whole { OnOk result (ReadsAllScreened board.now.shape query.now front caller.old.account caller.new.account) }
+    ensures whole { OnOk result
+        (ReadsAllScreened board.now.shape query.now front caller.old.account caller.new.account) }
     ensures found { OnOk result (AreFound board.now.shape caller.new.account query.now budget front hits.new) }
     ensures rows { OnOk result (LoadsPruned query.now caller.old.account caller.new.account hits.new.rows) }
-    ensures over { (at : ℕ) → result ≡ Err (SearchError.OverBudget at) → (at ≡ front) × Replies board.now.shape caller.new.account query.now budget front over_budget
+    ensures over { (at : ℕ) → result ≡ Err (SearchError.OverBudget at) → (at ≡ front)
+        × Replies board.now.shape caller.new.account query.now budget front over_budget
         × ((rows : ℕ) × LoadsPruned query.now caller.old.account caller.new.account rows) }
 {
     let mut found = Rows {
@@ -209,13 +219,13 @@ fn answer(
     )
 }
 
-/// Gives the hits of the query among the records that are live at the front, which it loads, by rising number, each with the least
-/// embedding, how many records were screened, and how many rows were loaded. It answers the front. It is over budget only where the work
-/// of this search exceeds the budget, and always where the screened records have more atoms than that. After an error the list is empty.
-/// It descends in the class tree with the need of the query's pivot: the code words that it loads are pruned (`LoadsPruned`), none is
-/// loaded twice. The names, atoms and bonds that it loads are those of screened records (`ReadsScreened`), record after
-/// record by rising number and each word once (`ReadsInTurn`). It doesn't wait. The answer is true of every board that
-/// has what the caller has loaded by then.
+/// Gives the hits of the query among the records that are live at the front, which it loads, by rising number, each
+/// with the least embedding, how many records were screened, and how many rows were loaded. It answers the front. It is
+/// over budget only where the work of this search exceeds the budget, and always where the screened records have more
+/// atoms than that. After an error the list is empty. It descends in the class tree with the need of the query's pivot:
+/// the code words that it loads are pruned (`LoadsPruned`), none is loaded twice. The names, atoms and bonds that it
+/// loads are those of screened records (`ReadsScreened`), record after record by rising number and each word once
+/// (`ReadsInTurn`). It doesn't wait. The answer is true of every board that has what the caller has loaded by then.
 pub fn search(
     alloc: Global,
     board: &Board,
@@ -230,18 +240,23 @@ pub fn search(
     ensures stock { caller.new.stock ≡ caller.old.stock }
     ensures found { IfOk result (λ f. (caller.old.account.log.seen ≤ f)
         × IsSearched caller.old.account caller.new.account f (Answered query.now budget f (Hits hits.new.hits) ∷ [])) }
-    ensures records { IfOk result (λ f. Whatever board.now.shape caller.new.account f (λ h. Counts query.now h hits.new.records)) }
+    ensures records { IfOk result
+        (λ f. Whatever board.now.shape caller.new.account f (λ h. Counts query.now h hits.new.records)) }
     ensures rows { IfOk result (λ f. LoadsPruned query.now caller.old.account caller.new.account hits.new.rows) }
     ensures read { IfOk result (λ f. ReadsScreened board.now.shape query.now f caller.old.account caller.new.account) }
-    ensures whole { IfOk result (λ f. ReadsAllScreened board.now.shape query.now f caller.old.account caller.new.account) }
-    ensures reply { IfOk result (λ f. Whatever board.now.shape caller.new.account f (λ h. IsReply query.now budget h (found hits.new.hits))) }
+    ensures whole { IfOk result
+        (λ f. ReadsAllScreened board.now.shape query.now f caller.old.account caller.new.account) }
+    ensures reply { IfOk result (λ f. Whatever board.now.shape caller.new.account f
+        (λ h. IsReply query.now budget h (found hits.new.hits))) }
     ensures over { (at : ℕ) → result ≡ Err (SearchError.OverBudget at) → (caller.old.account.log.seen ≤ at)
         × IsSearched caller.old.account caller.new.account at (Answered query.now budget at OverBudget ∷ [])
         × Whatever board.now.shape caller.new.account at (λ h. IsReply query.now budget h over_budget)
         × ((rows : ℕ) × LoadsPruned query.now caller.old.account caller.new.account rows) }
     ensures turn { ReadsInTurn board.now.shape caller.old.account caller.new.account }
-    ensures read_over { (at : ℕ) → result ≡ Err (SearchError.OverBudget at) → ReadsScreened board.now.shape query.now at caller.old.account caller.new.account }
-    ensures memory { result ≡ Err SearchError.OutOfMemory → (f : ℕ) × IsSearched caller.old.account caller.new.account f [] }
+    ensures read_over { (at : ℕ) → result ≡ Err (SearchError.OverBudget at)
+        → ReadsScreened board.now.shape query.now at caller.old.account caller.new.account }
+    ensures memory { result ≡ Err SearchError.OutOfMemory → (f : ℕ) × IsSearched caller.old.account caller.new.account f
+        [] }
     ensures empty { IfErr result (λ e. hits.new ≡ no_hits) }
 {
     hits.clear();

@@ -5,7 +5,8 @@ ghost use Rattle.board_core.specs.Blocks.{block_size};
 ghost use Rattle.board_core.specs.Loaded.{KnowsBlock, KnowsHead, IsInTable, HasBlock};
 ghost use Rattle.board_core.specs.Steps.{MayBeSome};
 ghost use Rattle.board.specs.Seated.{IsOf};
-ghost use Rattle.searcher.specs.Records.{IsOfBlock, IsTextPlace, ReadsAt, ReadsWord, places_from, places_read, text_places};
+ghost use Rattle.searcher.specs.Records.{IsOfBlock, IsTextPlace, ReadsAt, ReadsWord, places_from, places_read};
+ghost use Rattle.searcher.specs.Records.{text_places};
 ghost use Rattle.searcher.specs.Searched.{Loads, words_past};
 ghost use Rattle.searcher.specs.Walking.{Reads, HasFacts};
 
@@ -38,7 +39,8 @@ fn load_words(
     ensures others { (i : ℕ) → (i < from) ⊎ (until ≤ i) → slice_index words.new i ≡ slice_index words.old i }
     ensures once { Loads caller.old.account caller.new.account 0 0 (until - from) [] }
     ensures of_block { ReadsAt caller.old.account caller.new.account (IsOfBlock block head) }
-    ensures places { places_read caller.new.account ≡ places_read caller.old.account ++ places_from (block + from) (until - from) }
+    ensures places { places_read caller.new.account ≡ places_read caller.old.account ++ places_from (block + from)
+        (until - from) }
     ensures read { (i : ℕ) → from ≤ i → i < until → ReadsWord caller.old.account caller.new.account (block + i) }
 {
     for index in from..until {
@@ -59,8 +61,10 @@ pub(crate) fn load_block(board: &Board, caller: &mut Caller, block: u64, words: 
     ensures size { length words.new ≡ 7200 }
     ensures whole { block_size (slice_index words.new 0) ≤ length words.new }
     ensures words { HasBlock board.now.shape caller.new.account block (slice_index words.new) }
-    ensures once { (head : ℕ) × Loads caller.old.account caller.new.account 0 0 (words_past head) (record { place = block; word = head } ∷ []) }
-    ensures of_block { (head : ℕ) × KnowsHead board.now.shape caller.new.account block head × ReadsAt caller.old.account caller.new.account (IsOfBlock block head)
+    ensures once { (head : ℕ) × Loads caller.old.account caller.new.account 0 0 (words_past head)
+        (record { place = block; word = head } ∷ []) }
+    ensures of_block { (head : ℕ) × KnowsHead board.now.shape caller.new.account block head
+        × ReadsAt caller.old.account caller.new.account (IsOfBlock block head)
         × ((i : ℕ) → IsTextPlace head i → ReadsWord caller.old.account caller.new.account (block + i))
         × (places_read caller.new.account ≡ places_read caller.old.account ++ text_places block head) }
 {

@@ -31,7 +31,8 @@ pub(crate) fn find_rows(
     requires empty { found.old.rows.items ≡ [] }
     ensures of { IsOf board.now caller.new }
     ensures stock { caller.new.stock ≡ caller.old.stock }
-    ensures found { IfOk result (λ n. HasFound board.now.shape query.now caller.old.account caller.new.account found.new.rows.items n) }
+    ensures found { IfOk result
+        (λ n. HasFound board.now.shape query.now caller.old.account caller.new.account found.new.rows.items n) }
     ensures visits { Visits caller.old.account caller.new.account }
 {
     let need = pivot_need(query);

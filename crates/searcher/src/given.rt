@@ -63,7 +63,8 @@ fn numbers_of(
     ensures reads { Reads caller.old.account caller.new.account }
     ensures once { (marks : ℕ) × (marks ≤ length rows.now) × Loads caller.old.account caller.new.account 0 marks 0 [] }
     ensures early { IfOk result (λ numbers. AreEarly front numbers.items × (length numbers.items ≤ length rows.now)) }
-    ensures all { IfOk result (λ numbers. Each (λ r. AreNumbered board.now.shape caller.new.account front r.block numbers.items) rows.now) }
+    ensures all { IfOk result (λ numbers. Each
+        (λ r. AreNumbered board.now.shape caller.new.account front r.block numbers.items) rows.now) }
     ensures of_rows { IfOk result (λ numbers. AreOfRows board.now.shape caller.new.account rows.now numbers.items) }
 {
     let mut numbers = Vec::new(alloc);
@@ -92,7 +93,8 @@ pub(crate) fn numbers_in_order(
     ensures reads { Reads caller.old.account caller.new.account }
     ensures once { (marks : ℕ) × (marks ≤ length rows.now) × Loads caller.old.account caller.new.account 0 marks 0 [] }
     ensures early { IfOk result (λ numbers. AreEarly front numbers.items × (length numbers.items ≤ length rows.now)) }
-    ensures all { IfOk result (λ numbers. Each (λ r. AreNumbered board.now.shape caller.new.account front r.block numbers.items) rows.now) }
+    ensures all { IfOk result (λ numbers. Each
+        (λ r. AreNumbered board.now.shape caller.new.account front r.block numbers.items) rows.now) }
     ensures of_rows { IfOk result (λ numbers. AreOfRows board.now.shape caller.new.account rows.now numbers.items) }
     ensures rising { IfOk result (λ numbers. IsNonDecreasing numbers.items) }
 {

@@ -60,7 +60,8 @@ pub(crate) fn load_live(
     ensures stock { caller.new.stock ≡ caller.old.stock }
     ensures reads { Reads caller.old.account caller.new.account }
     ensures size { length words.new ≡ 7200 }
-    ensures live { IfOk result (λ r. IfSome r (λ one. IsReadLive board.now.shape caller.new.account front number one.name one.mol)) }
+    ensures live { IfOk result (λ r. IfSome r
+        (λ one. IsReadLive board.now.shape caller.new.account front number one.name one.mol)) }
     ensures none { result ≡ Ok None → Whatever board.now.shape caller.new.account front (NotLive number) }
     ensures once { LoadsOnce caller.old.account caller.new.account 1 }
     ensures read { ReadsOnly board.now.shape front number caller.old.account caller.new.account }

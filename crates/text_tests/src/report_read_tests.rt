@@ -7,7 +7,8 @@ use std::alloc::Global;
 // The most bytes of a text of these tests.
 const MOST_BYTES: usize = 100_000;
 
-// What is read, written again, or the number of the line where the bytes leave off to be a report, or 0 where they are too many.
+// What is read, written again, or the number of the line where the bytes leave off to be a report, or 0 where they are
+// too many.
 #[tactic(auto, using(report_read::proofs::Cuts::few_cut))]
 fn told(alloc: Global, bytes: &[u8]) -> Result<Result<Vec<u8>, u64>, OutOfMemory> {
     if bytes.len() > MOST_BYTES {

@@ -7,7 +7,11 @@ use Rattle.told_history.specs.declared.jobs.LaidJob.{LaidJob}
 
 -- the job as a board of this shape deals it
 abbrev pub dealt_by : Shape → LaidJob → Dealt
-dealt_by shape laid = record { group = laid.group; caller = caller_in_turn shape laid.loads laid.searches laid.job.now.order; job = laid.job.now }
+dealt_by shape laid = record {
+  group = laid.group;
+  caller = caller_in_turn shape laid.loads laid.searches laid.job.now.order;
+  job = laid.job.now;
+}
 
 -- how many loads and withdrawals, and how many searches, the jobs are
 abbrev pub loads_of : List Job → ℕ

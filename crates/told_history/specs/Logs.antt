@@ -1,5 +1,6 @@
 -- A log that breaks no rule, event by event.
-use Rattle.std.specs.Prelude.{◌≡◌, ℕ, ◌+◌, ◌-◌, ◌≤◌, List, [], ◌∷◌, ◌++◌, length, set, slice_get, slice_index, Option, Some, None}
+use Rattle.std.specs.Prelude.{◌≡◌, ℕ, ◌+◌, ◌-◌, ◌≤◌, List, [], ◌∷◌, ◌++◌, length, set, slice_get, slice_index, Option}
+use Rattle.std.specs.Prelude.{Some, None}
 use Rattle.htss_defs.specs.Molecule.{Molecule}
 use Rattle.htss_defs.specs.declared.shape.Shape.{Shape}
 use Rattle.reg_model.specs.Registries.{AreWithdrawals}
@@ -7,9 +8,10 @@ use Rattle.report_text.specs.declared.report.LogLine.{LogLine}
 use Rattle.report_text.specs.declared.report.LogLine.TheVariants.{Publish, Withdraw}
 use Rattle.report_rules.specs.Faults.{IsLogUpTo, told_from}
 
--- whatever molecules its lines name, the log is legal and by the shape's loaders, and these are the withdrawals: per event the number of
--- the one that withdraws its record, 0 where none does
-pub record IsSoundLog (shape : Shape) (events : List LogLine) (withdrawals : List ℕ) (named : List (ℕ × Molecule)) : Type 0 where
+-- whatever molecules its lines name, the log is legal and by the shape's loaders, and these are the withdrawals: per
+-- event the number of the one that withdraws its record, 0 where none does
+pub record IsSoundLog (shape : Shape) (events : List LogLine) (withdrawals : List ℕ)
+    (named : List (ℕ × Molecule)) : Type 0 where
   pub legal : IsLogUpTo shape (told_from named 1 events) (length events)
   pub are : AreWithdrawals (told_from named 1 events) withdrawals
 
@@ -29,7 +31,8 @@ pub record IsOpen (events : List LogLine) (withdrawals : List ℕ) (number : ℕ
 -- the line may come next
 abbrev pub MayFollow : Shape → List LogLine → List ℕ → LogLine → Type 0
 MayFollow shape events withdrawals (Publish loader atoms bonds name) = (1 ≤ loader) × (loader ≤ shape.loaders)
-MayFollow shape events withdrawals (Withdraw loader number) = (1 ≤ loader) × (loader ≤ shape.loaders) × IsOpen events withdrawals number
+MayFollow shape events withdrawals (Withdraw loader number) = (1 ≤ loader) × (loader ≤ shape.loaders)
+    × IsOpen events withdrawals number
 
 -- the withdrawals with one more event
 abbrev pub with_event : LogLine → List ℕ → List ℕ

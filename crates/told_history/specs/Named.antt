@@ -1,5 +1,6 @@
 -- Which record each event is named by, as the code has it.
-use Rattle.std.specs.Prelude.{◌≡◌, ◌⊎◌, ℕ, ◌+◌, ◌<◌, List, [], ◌∷◌, length, slice_index_or, Bool, true, false, ◌==◌, ◌||◌, Option, Some, None}
+use Rattle.std.specs.Prelude.{◌≡◌, ◌⊎◌, ℕ, ◌+◌, ◌<◌, List, [], ◌∷◌, length, slice_index_or, Bool, true, false, ◌==◌}
+use Rattle.std.specs.Prelude.{◌||◌, Option, Some, None}
 use Rattle.htss_defs.specs.Molecule.{Molecule}
 use Rattle.script_text.specs.declared.script.Order.{Order}
 use Rattle.report_text.specs.declared.report.Block.{Block}
@@ -47,7 +48,8 @@ lines_in (block.Search line file answer) = []
 
 -- the lines of the block, where it is that of this job
 abbrev pub AreLinesFor : ℕ → Order → Block → List LoadLine → Type 0
-AreLinesFor line order here lines = (IsBlockFor line order here × (lines ≡ lines_in here)) ⊎ ((IsBlockFor line order here → ⊥) × (lines ≡ []))
+AreLinesFor line order here lines = (IsBlockFor line order here × (lines ≡ lines_in here))
+    ⊎ ((IsBlockFor line order here → ⊥) × (lines ≡ []))
 
 -- what the block names, if one stands there
 abbrev pub IsNamedAt : List (ℕ × List ℕ) → Dealt → Option Block → List (ℕ × Molecule) → Type 0

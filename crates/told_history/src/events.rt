@@ -56,8 +56,10 @@ fn is_line_of(line: &LogLine, loader: u8, name: &Name, mol: &Mol) -> bool
 
 // Whether the event is named with this molecule.
 fn is_named_by(namer: Namer<'_>, mol: &Mol) -> bool
-    ensures is { result ≡ true → (named : List (ℕ × Molecule)) (number : ℕ) → IsNamer named number namer.entry → molecule_named named number ≡ mol.now }
-    ensures other { result ≡ false → (named : List (ℕ × Molecule)) (number : ℕ) → IsNamer named number namer.entry → molecule_named named number ≡ mol.now → ⊥ }
+    ensures is { result ≡ true → (named : List (ℕ × Molecule)) (number : ℕ) → IsNamer named number namer.entry
+        → molecule_named named number ≡ mol.now }
+    ensures other { result ≡ false → (named : List (ℕ × Molecule)) (number : ℕ) → IsNamer named number namer.entry
+        → molecule_named named number ≡ mol.now → ⊥ }
 {
     match namer {
         Namer::Record(one) => is_same_molecule(one, mol),
@@ -153,7 +155,8 @@ fn is_withdrawal_by(line: &LogLine, loader: u8, target: u32) -> bool
 /// Whether event `number` withdraws the target.
 pub fn is_withdrawn_by(told: &Told<'_>, number: u32, target: u32) -> bool
     ensures is { result ≡ true → (history : List Event) → Tells told.now history → Withdraws history number target }
-    ensures other { result ≡ false → (history : List Event) → Tells told.now history → Withdraws history number target → ⊥ }
+    ensures other { result ≡ false → (history : List Event) → Tells told.now history → Withdraws history number target
+        → ⊥ }
 {
     if number == 0 {
         return false;
@@ -179,8 +182,10 @@ fn is_end_of(line: &LogLine, target: u32) -> bool
 pub fn is_published(told: &Told<'_>, front: u32, number: u32) -> bool
     requires { front ≤ length told.now.lines.now }
     ensures within { result ≡ true → (1 ≤ number) × (number ≤ front) }
-    ensures is { result ≡ true → (history : List Event) → Tells told.now history → HasRecord (take front history) number }
-    ensures other { result ≡ false → (history : List Event) → Tells told.now history → HasRecord (take front history) number → ⊥ }
+    ensures is { result ≡ true → (history : List Event) → Tells told.now history
+        → HasRecord (take front history) number }
+    ensures other { result ≡ false → (history : List Event) → Tells told.now history
+        → HasRecord (take front history) number → ⊥ }
 {
     if number == 0 {
         return false;
@@ -203,8 +208,10 @@ pub fn is_withdrawn(told: &Told<'_>, front: u32, number: u32) -> bool
     requires front { front ≤ length told.now.lines.now }
     requires some { 1 ≤ number }
     requires within { number ≤ front }
-    ensures is { result ≡ true → (history : List Event) → Tells told.now history → IsWithdrawn (take front history) number }
-    ensures other { result ≡ false → (history : List Event) → Tells told.now history → IsWithdrawn (take front history) number → ⊥ }
+    ensures is { result ≡ true → (history : List Event) → Tells told.now history
+        → IsWithdrawn (take front history) number }
+    ensures other { result ≡ false → (history : List Event) → Tells told.now history
+        → IsWithdrawn (take front history) number → ⊥ }
 {
     let at = told.withdrawals[number as usize - 1];
     1 <= at && at <= front

@@ -1,5 +1,6 @@
 // Whether the hits that a report prints are those of the events up to the front.
-ghost use Rattle.std.specs.Prelude.{◌≡◌, ◌≢◌, ℕ, ◌+◌, ◌*◌, ◌<◌, ◌≤◌, List, length, take, slice_get, Some, None, true, false, IfOk, IfSome, IfNone, OnOk};
+ghost use Rattle.std.specs.Prelude.{◌≡◌, ◌≢◌, ℕ, ◌+◌, ◌*◌, ◌<◌, ◌≤◌, List, length, take, slice_get, Some, None, true};
+ghost use Rattle.std.specs.Prelude.{false, IfOk, IfSome, IfNone, OnOk};
 ghost use Rattle.htss_defs.specs.declared.history.Event.{Event};
 ghost use Rattle.htss_defs.specs.HitLists.{no_hits};
 ghost use Rattle.htss_defs.specs.QueryGraph.{IsQuery};
@@ -15,8 +16,9 @@ use htss_defs::{Hit, HitList, OutOfMemory, Query};
 use reg_model::Survey;
 use std::alloc::Global;
 
-/// Where the hits, the count and the budget of a search at this front do not hold: how many lines after the first of the search. `None` where
-/// all do: the hits are those of the query, so many records are screened, and the budget allows as many steps as these have atoms.
+/// Where the hits, the count and the budget of a search at this front do not hold: how many lines after the first of
+/// the search. `None` where all do: the hits are those of the query, so many records are screened, and the budget
+/// allows as many steps as these have atoms.
 #[inline(never)]
 pub fn check_hits(
     alloc: Global,
@@ -30,7 +32,8 @@ pub fn check_hits(
     requires whole { IsWhole told.now }
     requires front { front ≤ length told.now.lines.now }
     ensures holds { IfOk result (λ fault. IfNone fault ((history : List Event) → Tells told.now history
-        → IsReply query.now budget (take front history) (found hits.now) × Counts query.now (take front history) records)) }
+        → IsReply query.now budget (take front history) (found hits.now)
+        × Counts query.now (take front history) records)) }
     ensures differs { IfOk result (λ fault. IfSome fault (λ offset. (history : List Event) → Tells told.now history
         → IsHitFault query.now budget (take front history) hits.now records offset)) }
 {
@@ -85,7 +88,8 @@ fn survey_told(
     })
 }
 
-// Takes the record of a number, where it is live at the front. One that no record gives has no atom, so it is not screened.
+// Takes the record of a number, where it is live at the front. One that no record gives has no atom, so it is not
+// screened.
 fn take_told(
     survey: &mut Survey<'_>,
     told: &Told<'_>,
@@ -102,9 +106,11 @@ fn take_told(
     ensures asked { survey.new.matcher ≡ survey.old.matcher }
     ensures room { survey.new.records ≤ number }
     ensures atoms { survey.new.atoms ≤ 999 * number }
-    ensures ok { OnOk result ((history : List Event) (k : ℕ) → number ≡ k + 1 → IsQuery survey.old.matcher → Tells told.now history
+    ensures ok { OnOk result ((history : List Event) (k : ℕ) → number ≡ k + 1 → IsQuery survey.old.matcher
+        → Tells told.now history
         → HasSurveyed survey.old.matcher (take front history) k survey.old.records survey.old.atoms hits.old.hits
-        → HasSurveyed survey.old.matcher (take front history) number survey.new.records survey.new.atoms hits.new.hits) }
+        → HasSurveyed survey.old.matcher
+        (take front history) number survey.new.records survey.new.atoms hits.new.hits) }
 {
     let Some(live) = live_record(told, number, front) else {
         return Ok(());

@@ -8,7 +8,8 @@ use htss_defs::OutOfMemory;
 use script_text::{Group, Job, Order};
 use std::alloc::Global;
 
-/// A job, the number of its group, and how many loads and withdrawals, and how many searches, stand before it in the group.
+/// A job, the number of its group, and how many loads and withdrawals, and how many searches, stand before it in the
+/// group.
 #[derive(Clone, Copy)]
 pub struct LaidJob<'a> {
     pub group: usize,

@@ -13,7 +13,8 @@ use crate::told::Told;
 use htss_defs::{Mol, Name};
 use report_text::LogLine;
 
-/// A live record as a report tells it: its name, and its molecule, or none where no line names it with a record that was accepted.
+/// A live record as a report tells it: its name, and its molecule, or none where no line names it with a record that
+/// was accepted.
 #[derive(Clone, Copy)]
 pub struct LiveRecord<'a> {
     pub name: &'a Name,

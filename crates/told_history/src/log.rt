@@ -15,8 +15,8 @@ pub struct BrokenEvent {
     pub number: u32,
 }
 
-/// For each event of a legal log by the shape's loaders the number of the one that withdraws its record, 0 where none does; or the first
-/// event that breaks the log. What molecules the publications have makes no difference.
+/// For each event of a legal log by the shape's loaders the number of the one that withdraws its record, 0 where none
+/// does; or the first event that breaks the log. What molecules the publications have makes no difference.
 pub fn first_broken(
     alloc: Global,
     shape: Shape,

@@ -1,6 +1,7 @@
 // Which record each event is named by.
 ghost use Rattle.std.specs.Prelude.{◌≡◌, ◌≢◌, ◌↔◌, ℕ, ◌<◌, ◌≤◌, ◌++◌, ◌∷◌, [], List};
-ghost use Rattle.std.specs.Prelude.{IsTrue, IfOk, length, map, drop, take, option_map, unwrap_or, slice_get, slice_index_or};
+ghost use Rattle.std.specs.Prelude.{IsTrue, IfOk, length, map, drop, take, option_map, unwrap_or, slice_get};
+ghost use Rattle.std.specs.Prelude.{slice_index_or};
 ghost use Rattle.std.specs.List.{AllZip};
 ghost use Rattle.htss_defs.specs.Molecule.{Molecule};
 ghost use Rattle.htss_defs.specs.declared.shape.Shape.{Shape};
@@ -19,7 +20,8 @@ use report_text::{Block, LoadLine};
 use script_text::{Job, Order};
 use std::alloc::Global;
 
-/// Which line names an event first: none, one at whose place no record was accepted, or that of a record with this molecule.
+/// Which line names an event first: none, one at whose place no record was accepted, or that of a record with this
+/// molecule.
 #[derive(Clone, Copy)]
 pub enum Namer<'a> {
     Nobody,
@@ -35,8 +37,10 @@ pub fn name_events<'a>(
     blocks: &[Block],
     count: usize,
 ) -> Result<Vec<Namer<'a>>, OutOfMemory>
-    ensures named { IfOk result (λ table. (files : List (ℕ × List ℕ)) (shape : Shape) → AllZip (IsReadOf files) jobs.now reads.now
-        → (named : List (ℕ × Molecule)) × AreNamed files (map (dealt_by shape) jobs.now) blocks.now named × IsTable named table.items) }
+    ensures named { IfOk result (λ table. (files : List (ℕ × List ℕ)) (shape : Shape)
+        → AllZip (IsReadOf files) jobs.now reads.now
+        → (named : List (ℕ × Molecule)) × AreNamed files (map (dealt_by shape) jobs.now) blocks.now named
+        × IsTable named table.items) }
     ensures long { IfOk result (λ table. length table.items ≡ count) }
 {
     let mut table = vec![in alloc; Namer::Nobody; count]?;
@@ -57,7 +61,8 @@ fn name_job<'a>(
     ensures { (files : List (ℕ × List ℕ)) (one : Dealt) → one.job ≡ job.now
         → ((d : JobRead) → IsReadFor (bytes_at files job.now.line) job.now.order (slice_index_or reads.now index d))
         → index < length reads.now → (named : List (ℕ × Molecule)) → IsTable named table.old
-        → (here : List (ℕ × Molecule)) × IsNamedAt files one (slice_get blocks.now index) here × IsTable (named ++ here) table.new }
+        → (here : List (ℕ × Molecule)) × IsNamedAt files one (slice_get blocks.now index) here
+        × IsTable (named ++ here) table.new }
 {
     if index < reads.len() && index < blocks.len() {
         let lines = lines_for(job, &blocks[index]);
@@ -170,7 +175,8 @@ fn namer_with<'a>(mol: Option<&'a Mol>) -> Namer<'a>
 
 // The molecule of the record at this index.
 fn molecule_at(records: &[RecordRead], index: usize) -> Option<&Mol>
-    ensures { unwrap_or (option_map (λ m. m.now) result) no_molecule ≡ first_molecule (drop index (map outcome_of records.now)) }
+    ensures { unwrap_or (option_map (λ m. m.now) result) no_molecule
+        ≡ first_molecule (drop index (map outcome_of records.now)) }
 {
     if index < records.len() {
         molecule_of(&records[index])

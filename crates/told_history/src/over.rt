@@ -21,7 +21,8 @@ use htss_defs::{Mol, Need, Query};
 pub fn check_over(told: &Told<'_>, query: &Query, budget: u64, front: u32) -> bool
     requires whole { IsWhole told.now }
     requires front { front ≤ length told.now.lines.now }
-    ensures over { result ≡ true → (history : List Event) → Tells told.now history → IsReply query.now budget (take front history) over_budget }
+    ensures over { result ≡ true → (history : List Event) → Tells told.now history
+        → IsReply query.now budget (take front history) over_budget }
     ensures within { result ≡ false → (history : List Event) → Tells told.now history
         → IsReply query.now budget (take front history) over_budget → ⊥ }
 {
@@ -34,8 +35,8 @@ pub fn check_over(told: &Told<'_>, query: &Query, budget: u64, front: u32) -> bo
     false
 }
 
-// Pays for the record of a number, where it is live at the front; false where the budget is spent. One that no record gives has no atom, so
-// it is not screened.
+// Pays for the record of a number, where it is live at the front; false where the budget is spent. One that no record
+// gives has no atom, so it is not screened.
 fn weigh_told(weighing: &mut Weighing<'_>, told: &Told<'_>, number: u32, front: u32) -> bool
     requires whole { IsWhole told.now }
     requires some { 1 ≤ number }

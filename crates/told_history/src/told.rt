@@ -2,7 +2,8 @@
 use crate::names::Namer;
 use report_text::LogLine;
 
-/// The lines of a log; for each the number of the event that withdraws its record, 0 where none does; and which line names it first.
+/// The lines of a log; for each the number of the event that withdraws its record, 0 where none does; and which line
+/// names it first.
 #[derive(Clone, Copy)]
 pub struct Told<'a> {
     pub lines: &'a [LogLine],

@@ -14,8 +14,10 @@ pub record Asked : Type 0 where
   pub query : QueryGraph
   pub budget : ℕ
 
--- the hits among these records, their lines and their number; and what is left of the budget for searching the screened ones
-pub record HitsHold (query : QueryGraph) (budget left : ℕ) (lines : List ℕ) (count : ℕ) (records : List NamedMol) : Type 0 where
+-- the hits among these records, their lines and their number; and what is left of the budget for searching the screened
+-- ones
+pub record HitsHold (query : QueryGraph) (budget left : ℕ) (lines : List ℕ) (count : ℕ)
+    (records : List NamedMol) : Type 0 where
   pub hits : List Hit
   pub are : AreHits query (publications records) hits
   pub lines_are : lines ≡ flat_map hit_line hits

@@ -9,7 +9,8 @@ use Rattle.command_ends.specs.RecordTexts.{accepted_records, check_lines, refuse
 use Rattle.tool_commands.specs.Searches.{SearchHolds}
 
 -- of these outcomes: the lines of the refused ones, what a search keeps of the others, and how many those are
-pub record FindHolds (query : QueryGraph) (budget : ℕ) (refused : List ℕ) (left : Option ℕ) (lines : List ℕ) (count number : ℕ) (outcomes : List Outcome) : Type 0 where
+pub record FindHolds (query : QueryGraph) (budget : ℕ) (refused : List ℕ) (left : Option ℕ) (lines : List ℕ)
+    (count number : ℕ) (outcomes : List Outcome) : Type 0 where
   pub refused_is : refused ≡ refused_lines 1 outcomes
   pub search : SearchHolds query budget left lines count (accepted_records outcomes)
   pub number_is : number ≡ length (accepted_records outcomes)
@@ -20,7 +21,8 @@ pub record CheckHolds (text : List ℕ) (accepted refused : ℕ) (outcomes : Lis
   pub accepted_is : accepted ≡ length (accepted_records outcomes)
   pub refused_is : refused ≡ refused_count outcomes
 
--- of these outcomes: how many are accepted, the atoms and the bonds of those, and into how many of them the query embeds
+-- of these outcomes: how many are accepted, the atoms and the bonds of those, and into how many of them the query
+-- embeds
 pub record SummaryHolds (query : QueryGraph) (records atoms bonds hits : ℕ) (outcomes : List Outcome) : Type 0 where
   pub records_is : records ≡ length (accepted_records outcomes)
   pub atoms_is : atoms ≡ sum_by (λ one. length one.mol.atoms) (accepted_records outcomes)

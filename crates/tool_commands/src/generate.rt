@@ -19,8 +19,8 @@ use std::alloc::Global;
 // The bytes of the longest generated record.
 const RECORD_SIZE: usize = 1391;
 
-/// Writes the file of so many records, 1 to 100,000, that are drawn from the seed, and answers the status: 0, 5 where a write
-/// failed, or 6 where memory ran out.
+/// Writes the file of so many records, 1 to 100,000, that are drawn from the seed, and answers the status: 0, 5 where a
+/// write failed, or 6 where memory ran out.
 #[inline(never)]
 pub fn make<K: Sink>(alloc: Global, count: u32, seed: u64, out: &mut K) -> u8
     requires { count ≤ 100000 }
@@ -35,7 +35,8 @@ pub fn make<K: Sink>(alloc: Global, count: u32, seed: u64, out: &mut K) -> u8
     }
 }
 
-/// Makes the file in memory and reads it back: the line on its records, and on those into which a ring of six carbons embeds.
+/// Makes the file in memory and reads it back: the line on its records, and on those into which a ring of six carbons
+/// embeds.
 #[inline(never)]
 pub fn summary_of<'a>(alloc: Global, count: u32, seed: u64) -> Result<Vec<u8>, Stop<'a>>
     requires { count ≤ 100000 }

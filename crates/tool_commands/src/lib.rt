@@ -1,4 +1,5 @@
-//! The commands of the program that never wait: records are found, checked and made, the codes of atoms are told, and reports are audited.
+//! The commands of the program that never wait: records are found, checked and made, the codes of atoms are told, and
+//! reports are audited.
 #![tactic(auto)]
 
 mod check_taker;

@@ -16,8 +16,8 @@ use hit_report::{push_count, push_hit, push_overbudget};
 use htss_defs::{Mol, Name, Need, OutOfMemory, Query};
 use std::alloc::Global;
 
-/// A search for a query. Records are screened by the codes of their atoms first. Once the budget is spent none is searched any
-/// more, and the answer is that the budget does not allow one.
+/// A search for a query. Records are screened by the codes of their atoms first. Once the budget is spent none is
+/// searched any more, and the answer is that the budget does not allow one.
 #[derive(Drop)]
 pub struct Search<'a> {
     matcher: Matcher<'a>,

@@ -11,11 +11,12 @@ use htss_defs::OutOfMemory;
 use outside::{Shelf, Sink};
 use std::alloc::Global;
 
-/// Does what the words after the program's name say, unless it may wait as `run` does, and answers the status:
-/// 0, or 1 where an audited report differs, 2 where they are no such command line, 3 where a script is at fault, 4 where a read failed, 5 where a write failed, 6 where memory ran out,
-/// 7 where a file is absent, 8 where it is too large. Of such a command, on a shelf that tells what files it has: where the files that
-/// it comes to read are there and within the limit, a script is in the grammar, and no count of faults rises, the status is 0, or 1 of an
-/// audit, or memory ran out.
+/// Does what the words after the program's name say, unless it may wait as `run` does, and answers the status: 0, or 1
+/// where an audited report differs, 2 where they are no such command line, 3 where a script is at fault, 4 where a read
+/// failed, 5 where a write failed, 6 where memory ran out, 7 where a file is absent, 8 where it is too large. Of such a
+/// command, on a shelf that tells what files it has: where the files that it comes to read are there and within the
+/// limit, a script is in the grammar, and no count of faults rises, the status is 0, or 1 of an audit, or memory ran
+/// out.
 pub fn htss_tool<F: Shelf, K: Sink>(
     alloc: Global,
     words: &[String],

@@ -221,7 +221,8 @@ const COMMANDS: [(&[&str], u8, &str); 54] = [
     (&["find", "a.sdf", "-co.mol", "--budget", "18"], 2, USAGE),
 ];
 
-// The words, the call of the shelf that fails, the call of the sink that takes nothing (0 for none), the status and the text.
+// The words, the call of the shelf that fails, the call of the sink that takes nothing (0 for none), the status and the
+// text.
 const FAULTS: [(&[&str], u64, u64, u8, &str); 8] = [
     (
         &["find", "ethanol.sdf", "co.mol"],

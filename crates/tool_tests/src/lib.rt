@@ -1,5 +1,5 @@
-//! Tests of the commands that never wait: command lines over files in memory, drawn queries, files that are checked, made
-//! files, files that are left unread, and a standard output that takes a few bytes at a time.
+//! Tests of the commands that never wait: command lines over files in memory, drawn queries, files that are checked,
+//! made files, files that are left unread, and a standard output that takes a few bytes at a time.
 #![tactic(auto)]
 
 #[cfg(test)]

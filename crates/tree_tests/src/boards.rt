@@ -56,7 +56,8 @@ fn sorted(alloc: Global, board: &Board, callers: Vec<Caller>) -> Result<Crowd, F
     requires { All (IsResting board.now) callers.items }
     ensures loadings { IfOk result (λ crowd. All (λ l. IsLoading board.now l.caller) crowd.loadings.items) }
     ensures searchers { IfOk result (λ crowd. All (IsAtRest board.now) crowd.searchers.items) }
-    ensures count { IfOk result (λ crowd. length crowd.loadings.items + length crowd.searchers.items ≡ length callers.items) }
+    ensures count { IfOk result
+        (λ crowd. length crowd.loadings.items + length crowd.searchers.items ≡ length callers.items) }
 {
     let mut crowd = Crowd {
         loadings: Vec::new(alloc),
@@ -72,7 +73,8 @@ fn sorted(alloc: Global, board: &Board, callers: Vec<Caller>) -> Result<Crowd, F
 pub(crate) fn open(alloc: Global, shape: Shape) -> Result<(Board, Crowd), Fail>
     ensures loadings { IfOk result (λ r. All (λ l. IsLoading r.0 l.caller) r.1.loadings.items) }
     ensures searchers { IfOk result (λ r. All (IsAtRest r.0) r.1.searchers.items) }
-    ensures count { IfOk result (λ r. length r.1.loadings.items + length r.1.searchers.items ≡ r.0.shape.loaders + r.0.shape.searchers) }
+    ensures count { IfOk result (λ r. length r.1.loadings.items + length r.1.searchers.items ≡ r.0.shape.loaders
+        + r.0.shape.searchers) }
 {
     let (board, callers) = callers_of(alloc, shape)?;
     let crowd = sorted(alloc, &board, callers)?;
@@ -135,7 +137,8 @@ pub(crate) struct Done {
     pub(crate) failed: bool,
 }
 
-// The caller of one loader goes to the others, and what it has done is told. Before that it takes what pages it is given, if it should.
+// The caller of one loader goes to the others, and what it has done is told. Before that it takes what pages it is
+// given, if it should.
 fn end_one(
     board: &Board,
     takes: bool,
@@ -194,7 +197,8 @@ pub(crate) fn close(
 ) -> Result<(Final, Vec<Done>), Fail>
     requires loadings { All (λ l. IsLoading board l.caller) crowd.loadings.items }
     requires searchers { All (IsAtRest board) crowd.searchers.items }
-    requires count { length crowd.loadings.items + length crowd.searchers.items ≡ board.shape.loaders + board.shape.searchers }
+    requires count { length crowd.loadings.items + length crowd.searchers.items ≡ board.shape.loaders
+        + board.shape.searchers }
 {
     let Crowd {
         loadings,

@@ -1,5 +1,5 @@
-// What the walk of a closed board must find, by the records alone: their codes are those of the molecules, and their blocks stand in
-// their loaders' regions one after the other.
+// What the walk of a closed board must find, by the records alone: their codes are those of the molecules, and their
+// blocks stand in their loaders' regions one after the other.
 ghost use Rattle.htss_defs.specs.Marked.{IsMarked};
 
 use crate::boards::Done;
@@ -64,8 +64,8 @@ fn first_rows(entries: &[Entry], block: u64, mol: &Mol) -> Result<usize, Fail>
     Ok(found)
 }
 
-// The rows of one record. All of them are found if it was staged. If it was refused a page or room in a chain, the one that was refused
-// is not found, nor are those behind it. Answers how many are found.
+// The rows of one record. All of them are found if it was staged. If it was refused a page or room in a chain, the one
+// that was refused is not found, nor are those behind it. Answers how many are found.
 fn rows_of_try(
     alloc: Global,
     entries: &[Entry],
@@ -162,8 +162,8 @@ fn branches_differ(branches: &[Path]) -> Result<(), Fail> {
     Ok(())
 }
 
-// Each published row is found once, under its codes, and there are no other rows than those that were tried. Each event is named by one
-// record.
+// Each published row is found once, under its codes, and there are no other rows than those that were tried. Each event
+// is named by one record.
 pub(crate) fn check_rows(
     alloc: Global,
     last: &Final,
@@ -189,8 +189,8 @@ pub(crate) fn check_rows(
     Ok(tally)
 }
 
-// After each loader has taken what it could, each page is either of the tree or was taken by one of them, once, or no loader's. The last
-// comes only where each loader was given 32, as many as it may have, and then the page is not busy.
+// After each loader has taken what it could, each page is either of the tree or was taken by one of them, once, or no
+// loader's. The last comes only where each loader was given 32, as many as it may have, and then the page is not busy.
 pub(crate) fn check_pages(pages: &[Page], walk: &Walk, done: &[Done]) -> Result<(), Fail> {
     let all_sated = done.iter().all(|one| one.taken.len() == 32);
     for (index, page) in pages.iter().enumerate() {

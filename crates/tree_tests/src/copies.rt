@@ -1,4 +1,5 @@
-// Equal records, by one loader: where their rows stand, and how many pages they take, is told by the rules of the tree alone.
+// Equal records, by one loader: where their rows stand, and how many pages they take, is told by the rules of the tree
+// alone.
 use crate::boards::{close, open};
 use crate::checks::check_rows;
 use crate::loads::load;
@@ -53,8 +54,9 @@ fn loaded<R: Threads + Wait + Sync + Abort>(
     Ok((room, walk))
 }
 
-// Forty rows with the same five codes. The first leaf is split four times, since its rows differ in none of the next codes, so four inner pages stand
-// one below the other. The leaf below them goes on twice. Four leaves were split, and are no longer in the tree.
+// Forty rows with the same five codes. The first leaf is split four times, since its rows differ in none of the next
+// codes, so four inner pages stand one below the other. The leaf below them goes on twice. Four leaves were split, and
+// are no longer in the tree.
 #[test]
 fn forty_copies_split(rt: HostRuntime) -> Result<(), Fail> {
     let alloc = rt.alloc();
@@ -86,14 +88,15 @@ fn fourteen_copies_fill_a_leaf(rt: HostRuntime) -> Result<(), Fail> {
     Ok(())
 }
 
-// The first atoms of the fifteen records share four codes and differ in the fifth, so the fifteenth makes four splits in a row: its row stands
-// in a leaf of depth 5, alone.
+// The first atoms of the fifteen records share four codes and differ in the fifth, so the fifteenth makes four splits
+// in a row: its row stands in a leaf of depth 5, alone.
 #[test]
 fn four_splits_in_a_row(rt: HostRuntime) -> Result<(), Fail> {
     let alloc = rt.alloc();
     let sketches = forked_sketches(alloc, 1)?;
     let (_, walk) = loaded(&rt, alloc, 200, sketches.as_slice())?;
-    // the block of such a record has 3 words, one for the name, six for each of its six atoms, and one for each of its five bonds
+    // the block of such a record has 3 words, one for the name, six for each of its six atoms, and one for each of its
+    // five bonds
     let first = 3 + 2 + 17 * 200 + 40;
     for number in 0..15u64 {
         let block = number.saturating_mul(45).saturating_add(first);

@@ -1,5 +1,5 @@
-//! Tests of the tree of classes that walk its words themselves: loaders insert rows beside each other, the board is closed, and each row
-//! is looked for.
+//! Tests of the tree of classes that walk its words themselves: loaders insert rows beside each other, the board is
+//! closed, and each row is looked for.
 #![tactic(auto)]
 
 #[cfg(test)]

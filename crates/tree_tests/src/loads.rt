@@ -25,8 +25,8 @@ pub(crate) enum Outcome {
     Refused(StageError),
 }
 
-// A record that a loader tried: which of the sketches it is, how many words of its region the loader had used before, and what became
-// of it.
+// A record that a loader tried: which of the sketches it is, how many words of its region the loader had used before,
+// and what became of it.
 #[derive(Clone, Copy, Drop)]
 pub(crate) struct Try {
     pub(crate) sketch: usize,

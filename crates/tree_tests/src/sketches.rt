@@ -95,8 +95,8 @@ pub(crate) fn drawn_sketches(alloc: Global, seed: u64, count: u32) -> Result<Vec
     Ok(sketches)
 }
 
-// The last two atoms of fifteen records. In each the four atoms before are a chain of carbons, and these two stand on its end, so the
-// first atoms of all fifteen have four codes in common and differ in the fifth.
+// The last two atoms of fifteen records. In each the four atoms before are a chain of carbons, and these two stand on
+// its end, so the first atoms of all fifteen have four codes in common and differ in the fifth.
 const ENDS: [(u8, u8); 15] = [
     (1, 1),
     (1, 7),
