@@ -1,5 +1,6 @@
 pub mod LinesOf
 pub mod Looked
+pub mod Marks
 pub mod Answered
 pub mod MarkedOnes
 pub mod OneList
