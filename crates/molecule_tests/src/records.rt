@@ -141,6 +141,14 @@ const STREAMS: &[(&[&str], &[(u32, Wanted)])] = &[
     ),
     (&[CARBON, "\nx"], &[(1, A_CARBON), (2, Err((10, 12)))]),
     (
+        &[OPEN, "> <X>\na$$$$\n $$$$\n\r$$$$\n$$$\n\n$$$$\n", CARBON],
+        &[(1, A_CARBON), (2, A_CARBON)],
+    ),
+    (
+        &[OPEN, "> <X>\n$\n$$\n$$$\n$$$$\nx\n"],
+        &[(1, A_CARBON), (2, Err((13, 12)))],
+    ),
+    (
         &[CARBON, TAILED_RING, TAILED_RING],
         &[(1, A_CARBON), (2, A_RING), (3, A_RING)],
     ),
