@@ -1,6 +1,6 @@
 -- What each line of a query's section says, and which are refused: as in a record, but for the symbols, the bond types,
 -- the topology and the atom lists. (CTfile Formats, "The Atom Block" for A, Q, * and L, "The Bond Block" for query bond
--- types 5 to 8 and topology, "The Atom List Block" and the property `M ALS`. That list lines are read by words, and the
+-- types 5 to 8 and topology, "The Atom List Block" and the property `M  ALS`. That list lines are read by words, and the
 -- refusals with their numbers, is this project's own.)
 use Rattle.std.specs.Prelude.{ℕ, zero, suc, ◌+◌, List, [], ◌∷◌, length, drop, Option, None, Some, option_and_then}
 use Rattle.std.specs.Prelude.{is_some}
