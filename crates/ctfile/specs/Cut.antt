@@ -1,7 +1,7 @@
 -- Where the first section of the pending bytes of a stream ends.
 -- (CTfile Formats, "SDfiles": a section ends at a line $$$$. How a stream is cut is this project's own.)
-use Rattle.std.specs.Prelude.{◌≡◌, ◌≢◌, ◌⊎◌, ℕ, ◌+◌, ◌<◌, ◌≤◌, List, [], ◌∷◌, ◌++◌, length, take, drop, slice_index}
-use Rattle.std.specs.Prelude.{All, Bool, true, false, not}
+use Rattle.std.specs.Prelude.{◌≡◌, ◌≢◌, ◌⊎◌, ℕ, ◌+◌, ◌≤◌, List, [], ◌∷◌, ◌++◌, length, take, drop, All, Bool, true}
+use Rattle.std.specs.Prelude.{false, not}
 use Rattle.std.specs.List.{list_any}
 use Rattle.mol_section.specs.Lines.{lines_of, ends_section}
 use Rattle.mol_section.specs.Fields.{is_blank}
@@ -83,16 +83,3 @@ pub record IsFirstSection (lines section : List (List ℕ)) : Type 0 where
   pub parts : lines ≡ section ++ rest
   pub none : NoneEnds section
   pub ends : BeginsWithEnd rest
-
--- a line begins at place k: the bytes begin there, or an LF stands before it
-abbrev pub StartsLine : List ℕ → ℕ → Type 0
-StartsLine bytes k = (k ≡ 0) ⊎ ((j : ℕ) × (k ≡ j + 1) × (j < length bytes) × (slice_index bytes j ≡ 10))
-
--- a line that ends a section begins at place k
-pub record IsMark (bytes : List ℕ) (k : ℕ) : Type 0 where
-  pub starts : StartsLine bytes k
-  pub ends : ends_section (drop k bytes) ≡ true
-
--- none begins before place n
-abbrev pub NoMark : List ℕ → ℕ → Type 0
-NoMark bytes n = (k : ℕ) → k < n → IsMark bytes k → ⊥

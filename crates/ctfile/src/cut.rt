@@ -1,14 +1,13 @@
 // The bytes of a stream that are pending, and where their first section ends.
 ghost use Rattle.std.specs.Prelude.{◌≡◌, ◌≢◌, ℕ, ◌+◌, ◌<◌, ◌≤◌, ◌++◌, ◌∷◌, length, take, drop, All, IfSome, IfNone};
 ghost use Rattle.std.specs.Prelude.{OnOk, OnErr};
-ghost use Rattle.std.specs.Prelude.{List, [], Bool, true, false, ◌==◌};
+ghost use Rattle.std.specs.Prelude.{List, [], Bool, true, false};
 ghost use Rattle.mol_section.specs.Lines.{lines_of, without_cr};
 ghost use Rattle.mol_section.specs.Fields.{is_blank};
 ghost use Rattle.ctfile.specs.Cut.{HasPassed, IsLooked, IsSection, NoSection, TakesLines, has_text};
-ghost use Rattle.ctfile.specs.Cut.{IsFirstSection, IsMark, NoMark, StartsLine};
-ghost use Rattle.std.specs.List.{count_by};
+ghost use Rattle.ctfile.specs.Cut.{IsFirstSection};
 
-use memchr::{memchr, memrchr};
+use memchr::memchr;
 use std::alloc::{AllocError, Global};
 use std::marker::Model;
 
@@ -142,111 +141,26 @@ fn look(bytes: &[u8], looked: Looked) -> Found
         → IsSection finished bytes.now (take result.looked.at bytes.now) (drop end bytes.now)) }
     ensures none { IfNone result.end (All (λ b. b ≢ 10) (drop result.looked.at bytes.now)) }
 {
-    let rest = &bytes[looked.at..];
-    match mark_place(rest, looked.searched) {
-        Some(place) => look_at_mark(bytes, looked, place),
-        None => {
-            let place = last_line(rest, looked.searched);
-            Found {
-                looked: Looked {
-                    at: looked.at + place,
-                    lines: looked.lines + lf_count(&rest[..place]),
-                    searched: rest.len() - place,
-                },
-                end: None,
-            }
+    let mut looked = looked;
+    let mut rest = &bytes[looked.at..];
+    while let Some((line, after)) = first_line(rest, looked.searched) {
+        let next = looked.at + line.len() + 1;
+        if line.starts_with(b"$$$$") {
+            looked.searched = line.len();
+            return Found {
+                looked,
+                end: Some(next),
+            };
         }
+        looked = Looked {
+            at: next,
+            lines: looked.lines + 1,
+            searched: 0,
+        };
+        rest = after;
     }
-}
-
-// The line that ends the section begins at this place of what was not looked at: it ends it where its LF is there.
-fn look_at_mark(bytes: &[u8], looked: Looked, place: usize) -> Found
-    requires looked { IsLooked bytes.now looked.at looked.lines looked.searched }
-    requires within { looked.at + place ≤ length bytes.now }
-    requires mark { IsMark (drop looked.at bytes.now) place }
-    requires first { NoMark (drop looked.at bytes.now) place }
-    ensures looked { IsLooked bytes.now
-        result.looked.at result.looked.lines result.looked.searched }
-    ensures within { IfSome result.end (λ end.
-        (result.looked.at < end) × (end ≤ length bytes.now)) }
-    ensures end { IfSome result.end (λ end. (finished : Bool)
-        → IsSection finished bytes.now (take result.looked.at bytes.now) (drop end bytes.now)) }
-    ensures none { IfNone result.end (All (λ b. b ≢ 10) (drop result.looked.at bytes.now)) }
-{
-    let at = looked.at + place;
-    let lines = looked.lines + lf_count(&bytes[looked.at..at]);
-    let searched = if place == 0 { looked.searched } else { 0 };
-    match first_line(&bytes[at..], searched) {
-        Some((line, _)) => Found {
-            looked: Looked {
-                at,
-                lines,
-                searched: line.len(),
-            },
-            end: Some(at + line.len() + 1),
-        },
-        None => Found {
-            looked: Looked {
-                at,
-                lines,
-                searched: bytes.len() - at,
-            },
-            end: None,
-        },
-    }
-}
-
-// The first place at which a line begins that ends a section. No LF stands before the searched place.
-fn mark_place(rest: &[u8], searched: usize) -> Option<usize>
-    requires within { searched ≤ length rest.now }
-    requires searched { All (λ b. b ≢ 10) (take searched rest.now) }
-    ensures within { IfSome result (λ place. place ≤ length rest.now) }
-    ensures mark { IfSome result (λ place. IsMark rest.now place) }
-    ensures first { IfSome result (λ place. NoMark rest.now place) }
-    ensures none { IfNone result (NoMark rest.now (length rest.now)) }
-{
-    if rest.starts_with(b"$$$$") {
-        return Some(0);
-    }
-    let mut from = searched;
-    while let Some(ahead) = memchr(36, &rest[from..]) {
-        let place = from + ahead;
-        if is_mark(rest, place) {
-            return Some(place);
-        }
-        from = place + 1;
-    }
-    None
-}
-
-// Whether a line that ends a section begins at the place.
-fn is_mark(bytes: &[u8], place: usize) -> bool
-    requires within { place < length bytes.now }
-    ensures yes { result ≡ true → IsMark bytes.now place }
-    ensures no { result ≡ false → IsMark bytes.now place → ⊥ }
-{
-    (place == 0 || bytes[place - 1] == 10) && bytes[place..].starts_with(b"$$$$")
-}
-
-// The place after the last LF, 0 where there is none. None stands before the searched place.
-fn last_line(rest: &[u8], searched: usize) -> usize
-    requires within { searched ≤ length rest.now }
-    requires searched { All (λ b. b ≢ 10) (take searched rest.now) }
-    ensures within { result ≤ length rest.now }
-    ensures starts { StartsLine rest.now result }
-    ensures last { All (λ b. b ≢ 10) (drop result rest.now) }
-{
-    match memrchr(10, &rest[searched..]) {
-        Some(ahead) => searched + ahead + 1,
-        None => 0,
-    }
-}
-
-// How many of the bytes are an LF.
-fn lf_count(bytes: &[u8]) -> u64
-    ensures { result ≡ count_by (λ b. b == 10) bytes.now }
-{
-    bytes.iter().filter(|b| **b == 10).count() as u64
+    looked.searched = rest.len();
+    Found { looked, end: None }
 }
 
 // What the last record takes of a stream that is over: the bytes that were not looked at are its last line.
