@@ -3,6 +3,7 @@ ghost use Rattle.std.specs.Prelude.{◌≡◌, ◌≢◌, ℕ, ◌≤◌, ◌++�
 ghost use Rattle.std.specs.Io.KnownBytes.{append_known};
 ghost use Rattle.outside.specs.Causes.{Rose};
 ghost use Rattle.outside.specs.Written.{GrewByFront};
+ghost use Rattle.command_ends.specs.declared.stop.Stop.TheVariants.{Memory};
 ghost use Rattle.command_ends.specs.Outcomes.{fault_line, line, read_why, status_why, stop_why};
 
 use htss_defs::OutOfMemory;
@@ -27,7 +28,7 @@ pub enum Stop<'a> {
 }
 
 impl<'a> From<OutOfMemory> for Stop<'a> {
-    ghost from_gives = { λ _ stop. stop ≡ Stop.Memory };
+    ghost from_gives = { λ _ stop. stop ≡ Memory };
 
     fn from(_: OutOfMemory) -> Self {
         Stop::Memory
