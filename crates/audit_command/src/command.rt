@@ -68,7 +68,10 @@ fn find<'a, F: Shelf>(
 {
     let bytes = read_file(alloc, report, shelf)?;
     let files = read_all_files(alloc, script.groups.as_slice(), shelf)?;
-    Ok(judge(alloc, script, &files, &bytes)?)
+    match judge(alloc, script, &files, &bytes) {
+        Ok(verdict) => Ok(verdict),
+        Err(OutOfMemory) => Err(Stop::Memory),
+    }
 }
 
 // The text of an audit whose report is one of its own log.

@@ -93,8 +93,10 @@ fn do_group<'a, R: Threads + Wait + Sync, F: Shelf>(
         (seen F.told F.absent F.faults shelf.old) (seen F.told F.absent F.faults shelf.new) }
 {
     let files = read_files(alloc, group.jobs.as_slice(), shelf)?;
-    append_group(rt, alloc, board, workers, group, &files, budget, text)?;
-    Ok(())
+    match append_group(rt, alloc, board, workers, group, &files, budget, text) {
+        Ok(()) => Ok(()),
+        Err(OutOfMemory) => Err(Stop::Memory),
+    }
 }
 
 // Does the jobs of a group and appends their blocks, after the first line where there is no text yet.

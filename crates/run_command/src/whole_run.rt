@@ -111,7 +111,10 @@ fn run_script<'a, R: Threads + Wait + Sync, F: Shelf>(
     ensures goes_on { ShelfGoesOn
         (seen F.told F.absent F.faults shelf.old) (seen F.told F.absent F.faults shelf.new) }
 {
-    let (board, mut workers, seats) = open(alloc, shape)?;
+    let (board, mut workers, seats) = match open(alloc, shape) {
+        Ok(opened) => opened,
+        Err(OutOfMemory) => return Err(Stop::Memory),
+    };
     let outcome = run_groups(
         rt,
         alloc,
@@ -123,7 +126,12 @@ fn run_script<'a, R: Threads + Wait + Sync, F: Shelf>(
         text,
     );
     let last = close(board, workers, seats);
-    outcome?;
-    append_history(alloc, text, &last)?;
-    Ok(last)
+    match outcome {
+        Ok(()) => {}
+        Err(stop) => return Err(stop),
+    }
+    match append_history(alloc, text, &last) {
+        Ok(()) => Ok(last),
+        Err(OutOfMemory) => Err(Stop::Memory),
+    }
 }

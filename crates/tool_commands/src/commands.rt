@@ -16,7 +16,7 @@ use audit_command::audit;
 use command_ends::{Stop, read_file, refuse, write_answer};
 use command_words::Command;
 use hit_report::push_query_refused;
-use htss_defs::Query;
+use htss_defs::{OutOfMemory, Query};
 use outside::{Shelf, Sink};
 use query_mol::{QueryRefusal, read_query};
 use std::alloc::Global;
@@ -96,7 +96,10 @@ fn find_hits<'a, F: Shelf>(
 {
     let mut taker = FindTaker::new(alloc, asked, budget);
     read_list(alloc, sdf, shelf, &mut taker)?;
-    Ok(taker.text()?)
+    match taker.text() {
+        Ok(text) => Ok(text),
+        Err(OutOfMemory) => Err(Stop::Memory),
+    }
 }
 
 // The text of `check`.
@@ -111,7 +114,10 @@ fn check<'a, F: Shelf>(alloc: Global, sdf: &'a str, shelf: &mut F) -> Result<Vec
 {
     let mut taker = CheckTaker::new(alloc);
     read_list(alloc, sdf, shelf, &mut taker)?;
-    Ok(taker.text()?)
+    match taker.text() {
+        Ok(text) => Ok(text),
+        Err(OutOfMemory) => Err(Stop::Memory),
+    }
 }
 
 // The text of `codes`.

@@ -43,7 +43,10 @@ pub fn summary_of<'a>(alloc: Global, count: u32, seed: u64) -> Result<Vec<u8>, S
     ensures text { IfOk result (λ text. IsSummary count seed text.items) }
     ensures memory { IfErr result (λ stop. stop ≡ Stop.Memory) }
 {
-    Ok(summary(alloc, count, seed)?)
+    match summary(alloc, count, seed) {
+        Ok(text) => Ok(text),
+        Err(OutOfMemory) => Err(Stop::Memory),
+    }
 }
 
 // The line on the made file.

@@ -33,7 +33,9 @@ pub fn read_list<'a, F: Shelf, T: Taker>(
     ensures goes_on { ShelfGoesOn
         (seen F.told F.absent F.faults shelf.old) (seen F.told F.absent F.faults shelf.new) }
 {
-    let mut reader = RecordReader::new(alloc)?;
+    let Ok(mut reader) = RecordReader::new(alloc) else {
+        return Err(Stop::Memory);
+    };
     let mut piece = [0; PIECE_SIZE];
     let mut offset = 0;
     loop {
@@ -42,12 +44,17 @@ pub fn read_list<'a, F: Shelf, T: Taker>(
             Ok(count) => count,
             Err(stop) => return Err(read_stop(stop, name)),
         };
-        take_piece(&mut reader, &piece[..count], taker)?;
+        match take_piece(&mut reader, &piece[..count], taker) {
+            Ok(()) => {}
+            Err(OutOfMemory) => return Err(Stop::Memory),
+        }
         offset += count;
     }
     reader.finish();
-    drain(&mut reader, taker)?;
-    Ok(())
+    match drain(&mut reader, taker) {
+        Ok(()) => Ok(()),
+        Err(OutOfMemory) => Err(Stop::Memory),
+    }
 }
 
 /// Feeds a piece, and hands on the records that are whole then.

@@ -11,14 +11,14 @@ pub returns-in_err-bytes-clause-stop : goal.returns-in_err-bytes-clause-stop
 returns-in_err-bytes-clause-stop g c =
     let p = err_from_is_err_and c.from_residual.result c.from_residual.ensures.1 in
     let before = seen g.F.Shelf.told g.F.Shelf.absent g.F.Shelf.faults c.args.shelf.now in
-    let now = seen g.F.Shelf.told g.F.Shelf.absent g.F.Shelf.faults c.read_bytes.new.shelf in
+    let now = seen g.F.Shelf.told g.F.Shelf.absent g.F.Shelf.faults c.read_file.new.shelf in
     rw (p.1, p.2) (λ name read. stops_at_report name c.args.report.now c.args.script.now.groups before now _ read c.in_err-bytes.ensures.stop)
 
 pub returns-in_err-files-clause-stop : goal.returns-in_err-files-clause-stop
 returns-in_err-files-clause-stop g c =
     let p = err_from_is_err_and c.from_residual-in_err-files.result c.from_residual-in_err-files.ensures.1 in
     let before = seen g.F.Shelf.told g.F.Shelf.absent g.F.Shelf.faults c.args.shelf.now in
-    let middle = seen g.F.Shelf.told g.F.Shelf.absent g.F.Shelf.faults c.read_bytes.new.shelf in
+    let middle = seen g.F.Shelf.told g.F.Shelf.absent g.F.Shelf.faults c.read_file.new.shelf in
     let now = seen g.F.Shelf.told g.F.Shelf.absent g.F.Shelf.faults c.read_all_files.new.shelf in
     let stops = rw c.as_slice.ensures at c.in_err-files.ensures.stop in
     rw (p.1, p.2)
@@ -27,7 +27,7 @@ returns-in_err-files-clause-stop g c =
 pub judge-requires-clause-files : goal.judge-requires-clause-files
 judge-requires-clause-files g c =
     let have = rw c.as_slice.ensures at c.in_ok-files.ensures.have in
-    have_files (g.F.Shelf.told c.read_bytes.new.shelf) c.in_ok-files.files (jobs_of c.args.script.now.groups) have.are
+    have_files (g.F.Shelf.told c.read_file.new.shelf) c.in_ok-files.files (jobs_of c.args.script.now.groups) have.are
 
 pub returns-in-Ok-clause-finding : goal.returns-in-Ok-clause-finding
 returns-in-Ok-clause-finding g c = λ name read.
