@@ -21,6 +21,7 @@ use Rattle.board_core.specs.After.{visited, let_go_all, after_link, after_split}
 use Rattle.board_core.specs.Steps.{Mine, MayExchangeLeaf, Exchange, after_exchange, ExchangesLeaf}
 use Rattle.board_core.proofs.ClaimWord.{KeepsCaller}
 use Rattle.board_core.proofs.ExchangeLeaf.{exchange_allowed}
+use Rattle.board.specs.declared.seats.Tail.{Tail}
 use Rattle.board.specs.Seated.{Place, Seated, IsOf, with_account}
 use Rattle.board.proofs.Tied.{seated}
 use Rattle.board.proofs.Stocks.{HasSeat}
@@ -49,19 +50,19 @@ let_go_all_kept own (n ∷ numbers) stock free q among =
     let one = let_go_kept (let_go_all numbers own) n stock (free 0 n refl) q among in omega arith
 
 exchange_keeps : (a : Account) (e : Exchange) → KeepsCaller a (after_exchange a e)
-exchange_keeps a e = let same = (link_same (after_split a e.numbers e.leaf) e.inner e.index e.code e.first false).0 in record { who = same.who; log = same.log; room = same.room }
+exchange_keeps a e = let same = (link_same (after_split a e.numbers e.leaf) e.inner e.index e.code e.first false).0 in record { who = same.who; log = same.log; room = same.room; lasting = same.lasting }
 
 exchange_stock : (a : Account) (e : Exchange) (stock : List ℕ) → Each (λ n. ¬ (IsAmong stock n)) e.numbers → (q : ℕ) → IsAmong stock q → owns q a.pool.own ≤ owns q (after_exchange a e).pool.own
 exchange_stock a e stock free q among =
     let kept : owns q a.pool.own ≤ owns q (let_go_all e.numbers a.pool.own) = let_go_all_kept a.pool.own e.numbers stock free q among in
     let same : owns q (after_exchange a e).pool.own ≡ owns q (let_go_all e.numbers a.pool.own) = ap (λ (x : PoolAccount). owns q x.own) (link_same (after_split a e.numbers e.leaf) e.inner e.index e.code e.first false).1 in omega arith
 
-pub exchange_seat : (e x : Exchange) (seen used : ℕ) (loader : Bool) (number : ℕ) (stock : List ℕ) (next found : ℕ) (s : Step (Unit {0})) (m n : Mine) → e ≡ x → ExchangesLeaf e s m found n → Each (λ n. ¬ (IsAmong stock n)) x.numbers
-    → HasSeat seen used loader number stock next m → HasSeat seen used loader number stock next n
-exchange_seat e x seen used loader number stock next found s m n is t free h = dite (ℕ_discrete found e.leaf)
-    (λ won. seat_kept seen used loader number stock next m n (after_exchange m.0.me e) (t.won won) (exchange_keeps m.0.me e) (exchange_stock m.0.me e stock (subst (λ (z : Exchange). Each (λ n. ¬ (IsAmong stock n)) z.numbers) (sym is) free)) h)
+pub exchange_seat : (e x : Exchange) (seen used : ℕ) (loader : Bool) (number : ℕ) (stock : List ℕ) (tails : List Tail) (next found : ℕ) (s : Step (Unit {0})) (m n : Mine) → e ≡ x → ExchangesLeaf e s m found n → Each (λ n. ¬ (IsAmong stock n)) x.numbers
+    → HasSeat seen used loader number stock tails next m → HasSeat seen used loader number stock tails next n
+exchange_seat e x seen used loader number stock tails next found s m n is t free h = dite (ℕ_discrete found e.leaf)
+    (λ won. seat_kept seen used loader number stock tails next m n (after_exchange m.0.me e) (t.won won) (exchange_keeps m.0.me e) (exchange_stock m.0.me e stock (subst (λ (z : Exchange). Each (λ n. ¬ (IsAmong stock n)) z.numbers) (sym is) free)) h)
     (λ lost. let same = link_same m.0.me e.inner e.index e.code found false in
-    seat_kept seen used loader number stock next m n (after_link m.0.me e.inner e.index e.code found false) (t.lost lost) same.0 (still_owned stock m.0.me (after_link m.0.me e.inner e.index e.code found false) same.1) h)
+    seat_kept seen used loader number stock tails next m n (after_link m.0.me e.inner e.index e.code found false) (t.lost lost) same.0 (still_owned stock m.0.me (after_link m.0.me e.inner e.index e.code found false) same.1) h)
 
 -- ---- as the call sees it
 

@@ -12,3 +12,4 @@ pub mod Endings
 pub mod Closings
 pub mod ClosedPages
 pub mod StagedStays
+mod TailWords

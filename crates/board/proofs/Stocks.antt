@@ -18,6 +18,8 @@ use Rattle.board_core.specs.Sheets.{owns}
 use Rattle.board_core.specs.After.{after_retire}
 use Rattle.board_core.specs.Steps.{Mine, Takes, TakesPage, became}
 use Rattle.board_core.proofs.Lists.{inside, each_none, each_snoc, at_end}
+use Rattle.board.specs.declared.seats.Tail.{Tail}
+use Rattle.board.specs.Tails.{AreTails}
 use Rattle.board.specs.Seated.{Seated, IsStock, who_of, with_stock}
 use Rattle.board.proofs.Tied.{seated}
 
@@ -73,23 +75,23 @@ popped t l a old new n None e s = tt
 
 -- ---- the caller's fields, and what its seat is
 
-pub record HasSeat (seen used : ℕ) (loader : Bool) (number : ℕ) (stock : List ℕ) (next : ℕ) (m : Mine) : Type 0 where
-  pub facts : (seen ≡ m.0.me.log.seen) × (m.0.me.who ≡ who_of loader number) × (m.0.kept ≡ []) × (m.1 ≡ []) × (used ≡ length m.0.me.room.used) × WhoFits m.0.shape m.0.me.who × IsStock m.0.shape m.0.me.pool.own stock × IsPage m.0.shape next
+pub record HasSeat (seen used : ℕ) (loader : Bool) (number : ℕ) (stock : List ℕ) (tails : List Tail) (next : ℕ) (m : Mine) : Type 0 where
+  pub facts : (seen ≡ m.0.me.log.seen) × (m.0.me.who ≡ who_of loader number) × (m.0.kept ≡ []) × (m.1 ≡ []) × (used ≡ length m.0.me.room.used) × WhoFits m.0.shape m.0.me.who × IsStock m.0.shape m.0.me.pool.own stock × IsPage m.0.shape next × AreTails m.0.shape m.0.me.tree.lasting tails
 
 -- the lock was taken or not
-pub lock_seat : (seen used : ℕ) (loader : Bool) (number : ℕ) (stock : List ℕ) (next found : ℕ) (s : Step (Unit {0})) (m n : Mine) → Takes s m found n → HasSeat seen used loader number stock next m → HasSeat seen used loader number stock next n
-lock_seat seen used loader number stock next found s m n t h = dite (ℕ_discrete found 0)
-    (λ free. subst (HasSeat seen used loader number stock next) (sym (t.won free)) record { facts = h.facts })
-    (λ taken. subst (HasSeat seen used loader number stock next) (sym (t.lost taken)) h)
+pub lock_seat : (seen used : ℕ) (loader : Bool) (number : ℕ) (stock : List ℕ) (tails : List Tail) (next found : ℕ) (s : Step (Unit {0})) (m n : Mine) → Takes s m found n → HasSeat seen used loader number stock tails next m → HasSeat seen used loader number stock tails next n
+lock_seat seen used loader number stock tails next found s m n t h = dite (ℕ_discrete found 0)
+    (λ free. subst (HasSeat seen used loader number stock tails next) (sym (t.won free)) record { facts = h.facts })
+    (λ taken. subst (HasSeat seen used loader number stock tails next) (sym (t.lost taken)) h)
 
 -- a page was taken or not
-pub page_seat : (seen used : ℕ) (loader : Bool) (number : ℕ) (stock : List ℕ) (next q found : ℕ) (s : Step (Unit {0})) (m n : Mine) → TakesPage q s m found n → HasSeat seen used loader number stock next m → HasSeat seen used loader number stock next n
-page_seat seen used loader number stock next q found s m n t h =
-    let (a, b, c, d, e, f, kept, page) = h.facts in
+pub page_seat : (seen used : ℕ) (loader : Bool) (number : ℕ) (stock : List ℕ) (tails : List Tail) (next q found : ℕ) (s : Step (Unit {0})) (m n : Mine) → TakesPage q s m found n → HasSeat seen used loader number stock tails next m → HasSeat seen used loader number stock tails next n
+page_seat seen used loader number stock tails next q found s m n t h =
+    let (a, b, c, d, e, f, kept, page, leaves) = h.facts in
     dite (ℕ_discrete found s.first)
-    (λ won. subst (HasSeat seen used loader number stock next) (sym (t.won won)) record { facts = (a, b, c, d, e, f, stock_more m.0.shape m.0.me.pool.own (record { page = q; words = [] }) stock kept, page) })
-    (λ lost. subst (HasSeat seen used loader number stock next) (sym (t.lost lost)) record { facts = h.facts })
+    (λ won. subst (HasSeat seen used loader number stock tails next) (sym (t.won won)) record { facts = (a, b, c, d, e, f, stock_more m.0.shape m.0.me.pool.own (record { page = q; words = [] }) stock kept, page, leaves) })
+    (λ lost. subst (HasSeat seen used loader number stock tails next) (sym (t.lost lost)) record { facts = h.facts })
 
 -- a page was retired
-pub retire_seat : (seen used : ℕ) (loader : Bool) (number : ℕ) (stock : List ℕ) (next q : ℕ) (m n : Mine) → n ≡ became m (after_retire m.0.me q) → HasSeat seen used loader number stock next m → HasSeat seen used loader number stock next n
-retire_seat seen used loader number stock next q m n t h = subst (HasSeat seen used loader number stock next) (sym t) record { facts = h.facts }
+pub retire_seat : (seen used : ℕ) (loader : Bool) (number : ℕ) (stock : List ℕ) (tails : List Tail) (next q : ℕ) (m n : Mine) → n ≡ became m (after_retire m.0.me q) → HasSeat seen used loader number stock tails next m → HasSeat seen used loader number stock tails next n
+retire_seat seen used loader number stock tails next q m n t h = subst (HasSeat seen used loader number stock tails next) (sym t) record { facts = h.facts }

@@ -29,6 +29,9 @@ use Rattle.board_core.specs.Steps.{MayLoadOwn, LoadsOwnCode, BeginsRow}
 use Rattle.board_core.proofs.LoadOwnCode.{own_code_allowed, begin_allowed}
 use Rattle.board_core.specs.declared.pool.PoolAccount.{PoolAccount}
 use Rattle.atomic_table.specs.Seated.{TableId}
+use Rattle.board.specs.declared.seats.Tail.{Tail}
+use Rattle.board_core.specs.declared.tree.Reached.{Reached}
+use Rattle.board.specs.Tails.{AreTails}
 use Rattle.board.specs.Seated.{IsStock, Place, Seated, IsOf}
 use Rattle.board.specs.Claimed.{HasLoadedInstead, HasClaimed}
 use Rattle.board.proofs.Tied.{seated}
@@ -80,8 +83,8 @@ let_go_kept own n stock free q among =
     let same : owns q (let_go n own) ≡ owns q own = without_else (λ (o : Own). o.page) (λ _. 1) n q (λ e. free (subst (IsAmong stock) (sym e) among)) own in omega arith
 
 more_same : (a : Account) (j n : ℕ) → KeepsCaller a (after_more a j n) × ((after_more a j n).pool ≡ a.pool)
-more_same a j zero = (record { who = refl; log = refl; room = refl }, refl)
-more_same a j (suc n) = (record { who = refl; log = refl; room = refl }, refl)
+more_same a j zero = (record { who = refl; log = refl; room = refl; lasting = refl }, refl)
+more_same a j (suc n) = (record { who = refl; log = refl; room = refl; lasting = refl }, refl)
 
 pub inner_kept : (a : Account) (j n c : ℕ) (stock : List ℕ) → ¬ (IsAmong stock n) → (q : ℕ) → IsAmong stock q → owns q a.pool.own ≤ owns q (after_next a j n c).pool.own
 inner_kept a j n c stock free q among =
@@ -89,16 +92,16 @@ inner_kept a j n c stock free q among =
     let same : owns q (after_next a j n c).pool.own ≡ owns q (after_inner a n).pool.own = ap (λ (x : PoolAccount). owns q x.own) (more_same (after_inner a n) j n).1 in
     let to : owns q a.pool.own ≤ owns q (after_inner a n).pool.own = let_go in omega arith
 
-pub own_seat : (seen used : ℕ) (loader : Bool) (number : ℕ) (stock : List ℕ) (next p i x : ℕ) (m n : Mine) → n ≡ became m (after_own m.0.me p i x) → HasSeat seen used loader number stock next m → HasSeat seen used loader number stock next n
-own_seat seen used loader number stock next p i x m n t h =
-    let (a, b, c, d, e, f, kept, page) = h.facts in
-    subst (HasSeat seen used loader number stock next) (sym t) record { facts = (a, b, c, d, e, f, stock_same m.0.shape m.0.me.pool.own (put_own p i x m.0.me.pool.own) stock (λ q. owns_put p i x q m.0.me.pool.own) kept, page) }
+pub own_seat : (seen used : ℕ) (loader : Bool) (number : ℕ) (stock : List ℕ) (tails : List Tail) (next p i x : ℕ) (m n : Mine) → n ≡ became m (after_own m.0.me p i x) → HasSeat seen used loader number stock tails next m → HasSeat seen used loader number stock tails next n
+own_seat seen used loader number stock tails next p i x m n t h =
+    let (a, b, c, d, e, f, kept, page, leaves) = h.facts in
+    subst (HasSeat seen used loader number stock tails next) (sym t) record { facts = (a, b, c, d, e, f, stock_same m.0.shape m.0.me.pool.own (put_own p i x m.0.me.pool.own) stock (λ q. owns_put p i x q m.0.me.pool.own) kept, page, leaves) }
 
 -- the log, the region and the stock are as they were
-pub seat_kept : (seen used : ℕ) (loader : Bool) (number : ℕ) (stock : List ℕ) (next : ℕ) (m n : Mine) (b : Account) → n ≡ became m b → KeepsCaller m.0.me b → ((p : ℕ) → IsAmong stock p → owns p m.0.me.pool.own ≤ owns p b.pool.own) → HasSeat seen used loader number stock next m → HasSeat seen used loader number stock next n
-seat_kept seen used loader number stock next m n after t keeps stocked h =
-    let (a, b, c, d, e, f, kept, inside) = h.facts in
-    subst (HasSeat seen used loader number stock next) (sym t) record {
+pub seat_kept : (seen used : ℕ) (loader : Bool) (number : ℕ) (stock : List ℕ) (tails : List Tail) (next : ℕ) (m n : Mine) (b : Account) → n ≡ became m b → KeepsCaller m.0.me b → ((p : ℕ) → IsAmong stock p → owns p m.0.me.pool.own ≤ owns p b.pool.own) → HasSeat seen used loader number stock tails next m → HasSeat seen used loader number stock tails next n
+seat_kept seen used loader number stock tails next m n after t keeps stocked h =
+    let (a, b, c, d, e, f, kept, inside, leaves) = h.facts in
+    subst (HasSeat seen used loader number stock tails next) (sym t) record {
       facts = (
         a ∙ ap (λ (l : LogAccount). l.seen) (sym keeps.log),
         keeps.who ∙ b,
@@ -108,33 +111,34 @@ seat_kept seen used loader number stock next m n after t keeps stocked h =
         subst (WhoFits m.0.shape) (sym keeps.who) f,
         stock_kept m.0.shape m.0.me.pool.own after.pool.own stock stocked kept,
         inside,
+        subst (λ (xs : List Reached). AreTails m.0.shape xs tails) (sym keeps.lasting) leaves,
       );
     }
 
 -- a load of a page word keeps all that the seat has
 slot_same : (a : Account) (j n : ℕ) → KeepsCaller a (after_slot a j n)
-slot_same a j n = record { who = refl; log = refl; room = refl }
+slot_same a j n = record { who = refl; log = refl; room = refl; lasting = refl }
 
 pub link_same : (a : Account) (j i c n : ℕ) (leaf : Bool) → KeepsCaller a (after_link a j i c n leaf) × ((after_link a j i c n leaf).pool ≡ a.pool)
-link_same a j i c zero leaf = (record { who = refl; log = refl; room = refl }, refl)
-link_same a j i c (suc n) leaf = (record { who = refl; log = refl; room = refl }, refl)
+link_same a j i c zero leaf = (record { who = refl; log = refl; room = refl; lasting = refl }, refl)
+link_same a j i c (suc n) leaf = (record { who = refl; log = refl; room = refl; lasting = refl }, refl)
 
 pub still_owned : (stock : List ℕ) (a b : Account) → b.pool ≡ a.pool → (p : ℕ) → IsAmong stock p → owns p a.pool.own ≤ owns p b.pool.own
 still_owned stock a b same p among = let e : owns p b.pool.own ≡ owns p a.pool.own = ap (λ (x : PoolAccount). owns p x.own) same in omega arith
 
-lost_seat : (claim : Claim) (seen used : ℕ) (loader : Bool) (number : ℕ) (stock : List ℕ) (next found : ℕ) (s : Step (Unit {0})) (m n : Mine) → LoadsInstead claim s m found n → HasSeat seen used loader number stock next m → HasSeat seen used loader number stock next n
-lost_seat (LeafBelow j i c x row) seen used loader number stock next found s m n t h = let same = link_same m.0.me j i c found t.leaf in seat_kept seen used loader number stock next m n _ t.after same.0 (still_owned stock m.0.me (after_link m.0.me j i c found t.leaf) same.1) h
-lost_seat (EntryOf j row) seen used loader number stock next found s m n t h = seat_kept seen used loader number stock next m n (after_slot m.0.me j found) t (slot_same m.0.me j found) (still_owned stock m.0.me (after_slot m.0.me j found) refl) h
-lost_seat (CodeOf j c) seen used loader number stock next found s m n t h = seat_kept seen used loader number stock next m n (after_slot m.0.me j found) t (slot_same m.0.me j found) (still_owned stock m.0.me (after_slot m.0.me j found) refl) h
-lost_seat (LeafBehind j x row) seen used loader number stock next found s m n t h = let same = more_same m.0.me j found in seat_kept seen used loader number stock next m n (after_more m.0.me j found) t.after same.0 (still_owned stock m.0.me (after_more m.0.me j found) same.1) h
-lost_seat (InnerBehind j x c) seen used loader number stock next found s m n t h = let same = more_same m.0.me j found in seat_kept seen used loader number stock next m n (after_more m.0.me j found) t.after same.0 (still_owned stock m.0.me (after_more m.0.me j found) same.1) h
+lost_seat : (claim : Claim) (seen used : ℕ) (loader : Bool) (number : ℕ) (stock : List ℕ) (tails : List Tail) (next found : ℕ) (s : Step (Unit {0})) (m n : Mine) → LoadsInstead claim s m found n → HasSeat seen used loader number stock tails next m → HasSeat seen used loader number stock tails next n
+lost_seat (LeafBelow j i c x row) seen used loader number stock tails next found s m n t h = let same = link_same m.0.me j i c found t.leaf in seat_kept seen used loader number stock tails next m n _ t.after same.0 (still_owned stock m.0.me (after_link m.0.me j i c found t.leaf) same.1) h
+lost_seat (EntryOf j row) seen used loader number stock tails next found s m n t h = seat_kept seen used loader number stock tails next m n (after_slot m.0.me j found) t (slot_same m.0.me j found) (still_owned stock m.0.me (after_slot m.0.me j found) refl) h
+lost_seat (CodeOf j c) seen used loader number stock tails next found s m n t h = seat_kept seen used loader number stock tails next m n (after_slot m.0.me j found) t (slot_same m.0.me j found) (still_owned stock m.0.me (after_slot m.0.me j found) refl) h
+lost_seat (LeafBehind j x row) seen used loader number stock tails next found s m n t h = let same = more_same m.0.me j found in seat_kept seen used loader number stock tails next m n (after_more m.0.me j found) t.after same.0 (still_owned stock m.0.me (after_more m.0.me j found) same.1) h
+lost_seat (InnerBehind j x c) seen used loader number stock tails next found s m n t h = let same = more_same m.0.me j found in seat_kept seen used loader number stock tails next m n (after_more m.0.me j found) t.after same.0 (still_owned stock m.0.me (after_more m.0.me j found) same.1) h
 
 -- an exchange was won or not
-pub claim_seat : (claim : Claim) (seen used : ℕ) (loader : Bool) (number : ℕ) (stock : List ℕ) (next found : ℕ) (s : Step (Unit {0})) (m n : Mine) → ClaimsWord claim s m found n → ((p : ℕ) → IsAmong stock p → owns p m.0.me.pool.own ≤ owns p (after_claim m.0.me claim).pool.own)
-    → HasSeat seen used loader number stock next m → HasSeat seen used loader number stock next n
-claim_seat claim seen used loader number stock next found s m n t stocked h = dite (ℕ_discrete found 0)
-    (λ won. seat_kept seen used loader number stock next m n (after_claim m.0.me claim) (t.won won) (claim_keeps m.0.me claim) stocked h)
-    (λ lost. lost_seat claim seen used loader number stock next found s m n (t.lost lost) h)
+pub claim_seat : (claim : Claim) (seen used : ℕ) (loader : Bool) (number : ℕ) (stock : List ℕ) (tails : List Tail) (next found : ℕ) (s : Step (Unit {0})) (m n : Mine) → ClaimsWord claim s m found n → ((p : ℕ) → IsAmong stock p → owns p m.0.me.pool.own ≤ owns p (after_claim m.0.me claim).pool.own)
+    → HasSeat seen used loader number stock tails next m → HasSeat seen used loader number stock tails next n
+claim_seat claim seen used loader number stock tails next found s m n t stocked h = dite (ℕ_discrete found 0)
+    (λ won. seat_kept seen used loader number stock tails next m n (after_claim m.0.me claim) (t.won won) (claim_keeps m.0.me claim) stocked h)
+    (λ lost. lost_seat claim seen used loader number stock tails next found s m n (t.lost lost) h)
 
 -- what the caller then knows
 claim_lost : (claim : Claim) (t : TableId) (stock : List ℕ) (next found : ℕ) (s : Step (Unit {0})) (m n : Mine) → found ≢ 0 → LoadsInstead claim s m found n → HasLoadedInstead m.0.shape claim (seated t m.0.shape m.0.me stock next) (seated t n.0.shape n.0.me stock next) found

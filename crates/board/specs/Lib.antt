@@ -3,3 +3,4 @@ pub mod Refused
 pub mod Closed
 pub mod Staging
 pub mod Claimed
+pub mod Tails

@@ -8,6 +8,7 @@ ghost use Rattle.board.specs.Seated.{IsNew, AreNew};
 ghost use Rattle.board.specs.Refused.{IsCause};
 
 use crate::plays::Next;
+use crate::seats::{TAILS, Tail};
 use crate::{Board, Caller};
 use arrayvec::ArrayVec;
 use atomic_table::{Seat, Table};
@@ -57,6 +58,7 @@ fn make_caller(board: &Board, opener: &mut Seat<(), View>, made: u8) -> Caller
         seen: 0,
         used: 0,
         stock: ArrayVec::new(),
+        tails: [Tail { first: 0, last: 0 }; TAILS],
         next: 1,
         loader,
         number,

@@ -3,6 +3,7 @@ use crate::blocks::Coded;
 use crate::exchange::Replaces;
 use crate::met::Met;
 use crate::pages::Paged;
+use crate::recall::{Pairs, Returns};
 use crate::regions::{Completed, Ended, Marked};
 use crate::steps::{Answers, Shown};
 use crate::swept::Sweeps;
@@ -307,6 +308,26 @@ impl<R: Reaches> Play<(), View> for PassLeaf<R> {
     ghost use Rattle.board_core.specs.Passing.{PassesLeaf};
 
     ghost then = { PassesLeaf R.number };
+}
+
+pub(crate) struct KeepLeaves<P> {
+    leaves: PhantomData<P>,
+}
+
+impl<P: Pairs> Play<(), View> for KeepLeaves<P> {
+    ghost use Rattle.board_core.specs.Passing.{KeepsLeaves};
+
+    ghost then = { KeepsLeaves P.first P.last };
+}
+
+pub(crate) struct Recall<R> {
+    leaf: PhantomData<R>,
+}
+
+impl<R: Returns> Play<(), View> for Recall<R> {
+    ghost use Rattle.board_core.specs.Passing.{Recalls};
+
+    ghost then = { Recalls R.number R.to };
 }
 
 pub(crate) struct ClaimWord<C> {

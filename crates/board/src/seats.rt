@@ -44,6 +44,16 @@ impl Board {
 /// So many own pages a caller keeps for later.
 pub const STOCK: usize = 32;
 
+// So many chains of leaves a caller keeps in mind.
+pub(crate) const TAILS: usize = 4096;
+
+/// Two leaves of one chain: its first one, or page 0 where there is none, and the last one that was come to.
+#[derive(Clone, Copy)]
+pub struct Tail {
+    pub first: u32,
+    pub last: u32,
+}
+
 /// A caller of a board: a loader or a searcher. Contracts see its board, the shape, its account, the own pages that it
 /// keeps for later, and the page at which its next look for a page begins.
 #[derive(Drop)]
@@ -53,6 +63,7 @@ pub struct Caller {
     // the words of its region that it has stored
     pub(crate) used: u32,
     pub(crate) stock: ArrayVec<u32, STOCK>,
+    pub(crate) tails: [Tail; TAILS],
     pub(crate) next: u32,
     pub(crate) loader: bool,
     pub(crate) number: u8,
@@ -63,6 +74,7 @@ impl Model for Caller {
     ghost use Rattle.board_core.specs.SeatRule.{WhoFits};
     ghost use Rattle.board_core.specs.Loaded.{IsPage};
     ghost use Rattle.board.specs.Seated.{Seated, IsStock, who_of};
+    ghost use Rattle.board.specs.Tails.{AreTails};
 
     ghost Value = { Seated };
 
@@ -77,7 +89,7 @@ impl Model for Caller {
     ghost invariant = { λ c. (c.seen ≡ c.seat.me.0.me.log.seen) × (c.seat.me.0.me.who ≡ who_of c.loader c.number)
         × (c.seat.me.0.kept ≡ []) × (c.seat.me.1 ≡ []) × (c.used ≡ length c.seat.me.0.me.room.used)
         × WhoFits c.seat.me.0.shape c.seat.me.0.me.who × IsStock c.seat.me.0.shape c.seat.me.0.me.pool.own c.stock.items
-        × IsPage c.seat.me.0.shape c.next };
+        × IsPage c.seat.me.0.shape c.next × AreTails c.seat.me.0.shape c.seat.me.0.me.tree.lasting c.tails };
 }
 
 impl Caller {

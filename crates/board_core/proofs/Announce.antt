@@ -32,6 +32,7 @@ use Rattle.board_core.proofs.Pooled.{linked_kept, SameRows, by_pool, seat_within
 use Rattle.board_core.proofs.Changed.{set_announced}
 use Rattle.board_core.specs.Rows.{codes_in, IsPlaced}
 use Rattle.board_core.specs.ClassTree.{Place, Tree}
+use Rattle.board_core.specs.KnownPages.{Lasts}
 use Rattle.board_core.specs.KnownRule.{Knows}
 use Rattle.board_core.specs.OldRows.{IsOldRow}
 use Rattle.board_core.proofs.RowFrame.{placed_begun}
@@ -77,7 +78,7 @@ announce_pool k w vs id i e v t seats r at is past bare begun =
     (λ _ _. nobody (λ p. 0 < stamp_of s p → v.me.pool.low ≤ stamp_of s p))
     (states_same w.states vs id v a r.states at refl refl)
 
-pub announce : (k : Shape) (p : Parts) (h : List Event) (vs : List View) (id i e : ℕ) (v : View) (t : TreeAccount) → Rule k p h vs → get_elem? vs id ≡ some v → seat_of k v.me.who ≡ suc i → e ≤ p.pool.epoch → held_in t.reached ≡ [] → SameRows v.me (announcing v.me e t) → t.front ≤ p.log.front → ((m : ℕ → Place) → Tree p.pages (sheet_of p.pool.states vs) m (codes_in k p.regions) (IsPlaced vs) → Knows p.pages (sheet_of p.pool.states vs) m (codes_in k p.regions) (IsPlaced vs) (IsOldRow k p.regions p.log.slots) t)
+pub announce : (k : Shape) (p : Parts) (h : List Event) (vs : List View) (id i e : ℕ) (v : View) (t : TreeAccount) → Rule k p h vs → get_elem? vs id ≡ some v → seat_of k v.me.who ≡ suc i → e ≤ p.pool.epoch → held_in t.reached ≡ [] → SameRows v.me (announcing v.me e t) → t.front ≤ p.log.front → ((m : ℕ → Place) → Tree p.pages (sheet_of p.pool.states vs) m (codes_in k p.regions) (IsPlaced vs) → Each (Lasts (sheet_of p.pool.states vs) m) v.me.tree.lasting → Knows p.pages (sheet_of p.pool.states vs) m (codes_in k p.regions) (IsPlaced vs) (IsOldRow k p.regions p.log.slots) t)
     → Rule k (record p { pool = record p.pool { announced = stored p.pool.announced i e } }) h (set vs id (with_me v (announcing v.me e t)))
 announce k p h vs id i e v t r at is past bare alike pinned knows = by_pool k p (record p.pool { announced = stored p.pool.announced i e }) h vs id v (announcing v.me e t) r at
     record { who = refl; log = refl; room = refl; entries = refl; shown = refl; heads = refl; facts = refl; codes = refl; marks = refl }
@@ -87,7 +88,7 @@ announce k p h vs id i e v t r at is past bare alike pinned knows = by_pool k p 
     alike
     pinned
     (linked_kept p.pool.states vs id v (announcing v.me e t) at (λ _. refl) (λ _. refl))
-    (tree_told k p.pool.states p.pages (codes_in k p.regions) (IsOldRow k p.regions p.log.slots) vs id v (announcing v.me e t) at (λ _. refl) refl alike.begun alike.placed (λ n. placed_begun k vs n r.rows) r.tree (knows r.tree.place r.tree.tree))
+    (tree_told k p.pool.states p.pages (codes_in k p.regions) (IsOldRow k p.regions p.log.slots) vs id v (announcing v.me e t) at (λ _. refl) refl alike.begun alike.placed (λ n. placed_begun k vs n r.rows) r.tree (knows r.tree.place r.tree.tree (mine (λ x. Knows p.pages (sheet_of p.pool.states vs) r.tree.place (codes_in k p.regions) (IsPlaced vs) (IsOldRow k p.regions p.log.slots) x.tree) vs id v at r.tree.known).lasts))
 
 -- the caller's place among all callers, from 0
 inside_callers : (k : Shape) (p : Parts) (h : List Event) (vs : List View) (id i : ℕ) (v : View) → Rule k p h vs → get_elem? vs id ≡ some v → seat_of k v.me.who ≡ suc i → i < k.loaders + k.searchers
@@ -104,7 +105,7 @@ pin_allowed k slots id i at_word e m is seat may s h _ at _ =
       tt,
       words_moved k s at_word e id m.1 m.0 (after_pin m.0.me e) _ h (ap (λ (z : ℕ). parts_of k (set s.words z e)) is ∙ set_announced k s.words i e h.wide inside)
           (announce k p (history_of k p) s.views id i e m.0 (after_pin m.0.me e).tree r at seat past refl record { begun = refl; placed = refl } (hand_at k p.log (history_of k p) s.views id m.0 r.log at).seen
-          (λ w t. knows_root p.pages (sheet_of p.pool.states s.views) w (codes_in k p.regions) (IsPlaced s.views) (IsOldRow k p.regions p.log.slots) t (after_pin m.0.me e).tree refl (λ n o. old_placed k p (history_of k p) s.views m.0.me.log.seen n r (hand_at k p.log (history_of k p) s.views id m.0 r.log at).seen o))),
+          (λ w t l. knows_root p.pages (sheet_of p.pool.states s.views) w (codes_in k p.regions) (IsPlaced s.views) (IsOldRow k p.regions p.log.slots) t (after_pin m.0.me e).tree refl (λ n o. old_placed k p (history_of k p) s.views m.0.me.log.seen n r (hand_at k p.log (history_of k p) s.views id m.0 r.log at).seen o) l)),
       refl,
     )
 
@@ -118,6 +119,6 @@ unpin_allowed k slots id i at_word m is seat s h _ at _ =
       tt,
       words_moved k s at_word 0 id m.1 m.0 (after_unpin m.0.me) _ h (ap (λ (z : ℕ). parts_of k (set s.words z 0)) is ∙ set_announced k s.words i 0 h.wide inside)
           (announce k p (history_of k p) s.views id i 0 m.0 (after_unpin m.0.me).tree r at seat (omega arith) refl record { begun = refl; placed = refl } (pin_here p.log.front s.views id m.0 r.pins at)
-          (λ w t. knows_nothing p.pages (sheet_of p.pool.states s.views) w (codes_in k p.regions) (IsPlaced s.views) (IsOldRow k p.regions p.log.slots) (after_unpin m.0.me).tree refl (λ n o. old_placed k p (history_of k p) s.views m.0.me.tree.front n r (pin_here p.log.front s.views id m.0 r.pins at) o))),
+          (λ w t l. knows_nothing p.pages (sheet_of p.pool.states s.views) w (codes_in k p.regions) (IsPlaced s.views) (IsOldRow k p.regions p.log.slots) (after_unpin m.0.me).tree refl (λ n o. old_placed k p (history_of k p) s.views m.0.me.tree.front n r (pin_here p.log.front s.views id m.0 r.pins at) o) l)),
       refl,
     )

@@ -104,7 +104,7 @@ claim_entry k p h vs id j q v r at may word =
           };
       learns = λ o. let told = law_slot u z m codes (IsPlaced ws) (IsOldRow k p.regions p.log.slots) tree v.me.tree o j within n
           (subst (λ (b : Bool). u x.page (slot_at b i) ≡ n) (sym may.leaf) put.here) may.unread (subst (λ (b : Bool). i < page_room b) (sym may.leaf) may.room) in
-          record { known = told.known; kept = told.kept; pairs = told.pairs; olds = told.olds };
+          record { known = told.known; kept = told.kept; pairs = told.pairs; olds = told.olds; lasts = told.lasts };
     })
 
 pub entry_allowed : (k : Shape) (slots id j at_word : ℕ) (q : Row) (m : Mine) → at_word ≡ page_word k (visited m.0.me.tree.reached j).page (2 + length (visited m.0.me.tree.reached j).slots) → MayClaimEntry k m.0.me j q

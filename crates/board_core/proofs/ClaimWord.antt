@@ -48,18 +48,19 @@ pub record KeepsCaller (a b : Account) : Type 0 where
   pub who : b.who ≡ a.who
   pub log : b.log ≡ a.log
   pub room : b.room ≡ a.room
+  pub lasting : b.tree.lasting ≡ a.tree.lasting
 
 more_keeps : (a : Account) (j n : ℕ) → KeepsCaller a (after_more a j n)
-more_keeps a j zero = record { who = refl; log = refl; room = refl }
-more_keeps a j (suc n) = record { who = refl; log = refl; room = refl }
+more_keeps a j zero = record { who = refl; log = refl; room = refl; lasting = refl }
+more_keeps a j (suc n) = record { who = refl; log = refl; room = refl; lasting = refl }
 
 slot_keeps : (a : Account) (j n : ℕ) → KeepsCaller a (after_slot a j n)
-slot_keeps a j zero = record { who = refl; log = refl; room = refl }
-slot_keeps a j (suc n) = record { who = refl; log = refl; room = refl }
+slot_keeps a j zero = record { who = refl; log = refl; room = refl; lasting = refl }
+slot_keeps a j (suc n) = record { who = refl; log = refl; room = refl; lasting = refl }
 
 pub claim_keeps : (a : Account) (claim : Claim) → KeepsCaller a (after_claim a claim)
-claim_keeps a (LeafBelow j i c n q) = record { who = refl; log = refl; room = refl }
-claim_keeps a (EntryOf j q) = record { who = refl; log = refl; room = refl }
-claim_keeps a (CodeOf j c) = record { who = refl; log = refl; room = refl }
-claim_keeps a (LeafBehind j n q) = record { who = refl; log = refl; room = refl }
-claim_keeps a (InnerBehind j n c) = let m = more_keeps (after_inner a n) j n in let s = slot_keeps (after_more (after_inner a n) j n) (length a.tree.reached) c in record { who = s.who ∙ m.who; log = s.log ∙ m.log; room = s.room ∙ m.room }
+claim_keeps a (LeafBelow j i c n q) = record { who = refl; log = refl; room = refl; lasting = refl }
+claim_keeps a (EntryOf j q) = record { who = refl; log = refl; room = refl; lasting = refl }
+claim_keeps a (CodeOf j c) = record { who = refl; log = refl; room = refl; lasting = refl }
+claim_keeps a (LeafBehind j n q) = record { who = refl; log = refl; room = refl; lasting = refl }
+claim_keeps a (InnerBehind j n c) = let m = more_keeps (after_inner a n) j n in let s = slot_keeps (after_more (after_inner a n) j n) (length a.tree.reached) c in record { who = s.who ∙ m.who; log = s.log ∙ m.log; room = s.room ∙ m.room; lasting = s.lasting ∙ m.lasting }

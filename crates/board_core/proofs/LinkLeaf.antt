@@ -99,7 +99,7 @@ link_leaf k p h vs id j i c n q v r at may word past some_n =
           (λ (o : IsLinked s y × (y ≢ 0)). inl record { linked = o.0; kind = (λ e. (sym (places y o.0) e).leaf) ∙ g.kind; room = g.room; some_n = g.some_n; there = sym (put.others y (2 + 2 * b) (inr (omega arith))) ∙ g.there })
           (λ (o : Left v.me.pool.own a.pool.own y). absurd (let clash : true ≡ false = (λ e. (sym placed_at e).leaf) ∙ ((λ e. (new (sym (go_one n v.me.pool.own y o) e)).leaf) ∙ g.kind) in cc))
           (turn.either y g.linked);
-      learns = λ o. record { known = o.known; kept = o.kept; pairs = o.pairs; olds = o.olds };
+      learns = λ o. record { known = o.known; kept = o.kept; pairs = o.pairs; olds = o.olds; lasts = o.lasts };
     })
 
 pub leaf_allowed : (k : Shape) (slots id j i c n at_word : ℕ) (q : Row) (m : Mine) → at_word ≡ page_word k (visited m.0.me.tree.reached j).page (3 + 2 * i) → i < 7 → m.0.shape ≡ k → MayLinkLeaf k m.0.me j i c n q

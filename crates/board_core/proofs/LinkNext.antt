@@ -133,11 +133,11 @@ module _ (k : Shape) (p : Parts) (h : List Event) (vs : List View) (id j n word 
     }
 
     -- the whole tree part
-    next_tree : a.tree.begun ≡ v.me.tree.begun → a.tree.reached ≡ v.me.tree.reached → a.tree.front ≡ v.me.tree.front → ((y : ℕ) → IsPlaced vs y → IsPlaced (set vs id (with_me v a)) y)
+    next_tree : a.tree.begun ≡ v.me.tree.begun → a.tree.reached ≡ v.me.tree.reached → a.tree.front ≡ v.me.tree.front → a.tree.lasting ≡ v.me.tree.lasting → ((y : ℕ) → IsPlaced vs y → IsPlaced (set vs id (with_me v a)) y)
         → Tree u (sheet_of p.pool.states (set vs id (with_me v a))) new codes (IsPlaced (set vs id (with_me v a)))
         → ((x.leaf ≡ false) → (y : ℕ) × IsBegun vs y × IsBelow (x.path ++ word ∷ []) (codes y))
         → TreeRule k p.pool.states u codes (IsOldRow k p.regions p.log.slots) (set vs id (with_me v a))
-    next_tree begun reached front placed tree claimed = link_tree k p.pool p.pages u codes (IsOldRow k p.regions p.log.slots) vs id v a x.page 1 n new r.tree r.pool at record {
+    next_tree begun reached front lasting placed tree claimed = link_tree k p.pool p.pages u codes (IsOldRow k p.regions p.log.slots) vs id v a x.page 1 n new r.tree r.pool at record {
       parted = parted;
       less = less;
       begun = begun;
@@ -162,8 +162,8 @@ module _ (k : Shape) (p : Parts) (h : List Event) (vs : List View) (id j n word 
           let c = claimed kind in
           inr (c.0, c.1, subst (λ (e : List ℕ × ℕ). IsBelow (e.0 ++ e.1 ∷ []) (codes c.0)) (λ f. ((sym (ap (λ (P : Place). P.path) at_new ∙ ap (λ (P : Place). P.path) here)) f, code f)) c.2))
           (turn.either y g.linked);
-      learns = λ o. subst (λ (e : ℕ × List Reached). Knows u (sheet_of p.pool.states (set vs id (with_me v a))) new codes (IsPlaced (set vs id (with_me v a))) (IsOldRow k p.regions p.log.slots) record { front = e.0; reached = e.1; begun = a.tree.begun; placed = a.tree.placed })
-          (λ i. (sym front i, sym reached i)) record { known = o.known; kept = o.kept; pairs = o.pairs; olds = o.olds };
+      learns = λ o. subst (λ (e : ℕ × List Reached × List Reached). Knows u (sheet_of p.pool.states (set vs id (with_me v a))) new codes (IsPlaced (set vs id (with_me v a))) (IsOldRow k p.regions p.log.slots) record { front = e.0; reached = e.1; lasting = e.2; begun = a.tree.begun; placed = a.tree.placed })
+          (λ i. (sym front i, sym reached i, sym lasting i)) record { known = o.known; kept = o.kept; pairs = o.pairs; olds = o.olds; lasts = o.lasts };
     }
 
     -- with the other parts
@@ -216,7 +216,7 @@ link_more_leaf k p h vs id j n q v r at may zero_word past some_n =
     next_rule k p h vs id j n (entry_word q) v r at may.may zero_word past some_n some_word a refl refl l
     record { who = refl; log = refl; room = refl; entries = refl; shown = refl; heads = refl; facts = refl; codes = refl; marks = refl } (λ y e. in_left v.me.tree.placed (q ∷ []) y e) refl refl refl refl
     (rows_placed k vs id v a (q ∷ []) r.rows at refl refl refl refl (each_cons (λ y. In y v.me.tree.begun) q [] may.row.begun (each_none (λ y. In y v.me.tree.begun))))
-    (next_tree k p h vs id j n (entry_word q) v r at may.may zero_word past some_n some_word a refl refl l refl refl refl rows.old tree (λ inner. absurd (let clash : true ≡ false = sym may.leaf ∙ inner in cc)))
+    (next_tree k p h vs id j n (entry_word q) v r at may.may zero_word past some_n some_word a refl refl l refl refl refl refl rows.old tree (λ inner. absurd (let clash : true ≡ false = sym may.leaf ∙ inner in cc)))
 
 pub link_inner : (k : Shape) (p : Parts) (h : List Event) (vs : List View) (id j n c : ℕ) (v : View) → Rule k p h vs → get_elem? vs id ≡ some v → MayLinkInner k v.me j n c
     → p.pages (visited v.me.tree.reached j).page 1 ≡ 0 → ((t : ℕ) → 16 ≤ t → p.pages n t ≡ 0) → n ≢ 0
@@ -251,7 +251,7 @@ link_inner k p h vs id j n c v r at may zero_word past some_n =
     next_rule k p h vs id j n c v r at may.may zero_word past some_n some_word a refl refl l
     record { who = refl; log = refl; room = refl; entries = refl; shown = refl; heads = refl; facts = refl; codes = refl; marks = refl } (λ y e. e) refl refl refl refl
     (rows_same k vs id v a r.rows at refl refl refl refl refl)
-    (next_tree k p h vs id j n c v r at may.may zero_word past some_n some_word a refl refl l refl refl refl placed tree
+    (next_tree k p h vs id j n c v r at may.may zero_word past some_n some_word a refl refl l refl refl refl refl placed tree
     (λ _. (entry_word row, (id, v, at, 0, v.me, refl, (row, may.claim.begun, refl)), row_below k p h vs id v r at row (x.path ++ c ∷ []) may.claim.begun may.claim.below)))
 
 pub more_leaf_allowed : (k : Shape) (slots id j n at_word : ℕ) (q : Row) (m : Mine) → at_word ≡ page_word k (visited m.0.me.tree.reached j).page 1 → m.0.shape ≡ k → MayLinkMoreLeaf k m.0.me j n q

@@ -39,6 +39,7 @@ use Rattle.board_core.proofs.FilledKnown.{other_word}
 use Rattle.board_core.proofs.Kept.{kept_words}
 use Rattle.board_core.proofs.TreeFrame.{placed_split, rows_stay}
 use Rattle.board_core.proofs.ChainFrame.{KeepsPages}
+use Rattle.board_core.proofs.TreeStays.{lasts_same}
 
 -- ---- one word of one page
 
@@ -146,6 +147,7 @@ module _ (w u : ℕ → ℕ → ℕ) (s z : Sheet) (m v : ℕ → Place) (c : �
         kept = kept_words w u s z m v c placed places (old a.front) a.reached t k.known plus each (λ j x there _ o. inl (still x.page o)) k.kept;
         pairs = k.pairs;
         olds = λ r o. let d = k.olds r o in (plus r d.0, d.1);
+        lasts = lasts_same s z m v still same a.lasting k.lasts;
       }
 
 -- pages of the tree stay in it, with their words other than 0

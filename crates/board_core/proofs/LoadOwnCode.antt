@@ -117,7 +117,7 @@ begin_tree k f w c old vs id q v at was r =
     let sheet : z ≡ s = sheet_same f vs id v a at (λ _. refl) refl in
     let plus : (n : ℕ) → IsPlaced vs n → IsPlaced ws n = rows_stay vs id v a at (λ x. x.tree.placed) refl in
     let old_here = mine (λ x. Knows w s r.place c (IsPlaced vs) old x.tree) vs id v at r.known in
-    let mine_now : Knows w s r.place c (IsPlaced vs) old a.tree = record { known = old_here.known; kept = old_here.kept; pairs = old_here.pairs; olds = old_here.olds } in
+    let mine_now : Knows w s r.place c (IsPlaced vs) old a.tree = record { known = old_here.known; kept = old_here.kept; pairs = old_here.pairs; olds = old_here.olds; lasts = old_here.lasts } in
     tree_moved k f f w c c old old vs ws (λ j u spot i x there r o. o) record {
       more = linked_same s z sheet;
       less = linked_same z s (sym sheet);

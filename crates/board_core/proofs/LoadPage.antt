@@ -95,7 +95,7 @@ module _ (k : Shape) (p : Parts) (h : List Event) (vs : List View) (id : ℕ) (v
   -- what was reached is set aside. The events that were seen at the pin stay
   pub begin_walk : Rule k p h (set vs id (with_me v (after_walk v.me)))
   begin_walk = knows_more (root ∷ []) (λ i q e. absurd (some-ne-none q (sym e)))
-      (knows_root p.pages (sheet_of p.pool.states vs) r.tree.place (codes_in k p.regions) (IsPlaced vs) (IsOldRow k p.regions p.log.slots) r.tree.tree (record v.me.tree { reached = root ∷ [] }) refl known_here.olds)
+      (knows_root p.pages (sheet_of p.pool.states vs) r.tree.place (codes_in k p.regions) (IsPlaced vs) (IsOldRow k p.regions p.log.slots) r.tree.tree (record v.me.tree { reached = root ∷ [] }) refl known_here.olds known_here.lasts)
 
   pub load_header : (j : ℕ) → j < length v.me.tree.reached → p.pages (visited v.me.tree.reached j).page 0 ≡ header_of (place_of (visited v.me.tree.reached j))
   load_header j within = law_header p.pages (sheet_of p.pool.states vs) r.tree.place (codes_in k p.regions) (IsPlaced vs) (IsOldRow k p.regions p.log.slots) r.tree.tree v.me.tree known_here j within

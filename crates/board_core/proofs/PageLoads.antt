@@ -103,6 +103,7 @@ module _ (w : ℕ → ℕ → ℕ) (s : Sheet) (m : ℕ → Place) (codes : ℕ 
         (λ i z _ there. k.kept i z there);
     pairs = each_set (λ (z : Reached). length z.links ≡ length z.slots) rs n y pairs (λ i z _ there. k.pairs i z there);
     olds = k.olds;
+    lasts = k.lasts;
   }
 
   -- a page was reached, of which nothing is known yet
@@ -115,6 +116,7 @@ module _ (w : ℕ → ℕ → ℕ) (s : Sheet) (m : ℕ → Place) (codes : ℕ 
     kept = each_snoc (λ (z : Reached). z.leaf ≡ true → IsLinked s z.page ⊎ AreKept (w z.page) codes placed z.path) ss y (λ _. inl n.linked) kept;
     pairs = each_snoc (λ (z : Reached). length z.links ≡ length z.slots) ss y (ap length n.links ∙ sym (ap length n.slots)) pairs;
     olds = k.olds;
+    lasts = k.lasts;
   }
 
   module _ (n : ℕ) (within : n < length rs) where

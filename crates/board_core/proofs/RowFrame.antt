@@ -111,7 +111,7 @@ not_placed k regions vs id v r seats rooms rows at fits fresh (j, u, there, i, x
 -- ---- a step of one account
 
 abbrev RowsOf : Shape → Who → List ℕ → List Sealed → List Row → List Row → Type 0
-RowsOf k who used blocks begun placed = RowsFit k who used blocks record { front = 0; reached = []; begun = begun; placed = placed }
+RowsOf k who used blocks begun placed = RowsFit k who used blocks record { front = 0; reached = []; lasting = []; begun = begun; placed = placed }
 
 abbrev AreRows : Shape → Account → Type 0
 AreRows k a = RowsFit k a.who a.room.used a.room.sealed a.tree

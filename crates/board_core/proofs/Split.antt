@@ -27,7 +27,7 @@ nil_of : (xs : List ℕ) → length xs ≡ 0 → xs ≡ []
 nil_of [] e = refl
 nil_of (x ∷ xs) e = absurd (omega arith)
 
-is_low : (n : ℕ) → n < 5 → n < chained
+pub is_low : (n : ℕ) → n < 5 → n < chained
 unfolding chained
 is_low n h = h
 

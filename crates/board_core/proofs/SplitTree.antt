@@ -16,10 +16,11 @@ use Rattle.board_core.specs.HeldRule.{HeldFits}
 use Rattle.board_core.specs.Sheets.{Sheet, sheet_of, IsLinked}
 use Rattle.board_core.specs.PoolRule.{PoolRule}
 use Rattle.board_core.specs.Rows.{HasRow, IsBegun, IsPlaced}
-use Rattle.board_core.specs.ClassTree.{Place, kind_of, header_of, Stands, IsBelow, Tree}
+use Rattle.board_core.specs.ClassTree.{Place, chained, kind_of, header_of, Stands, IsBelow, Tree}
 use Rattle.board_core.specs.Turns.{IsPut, Turns}
 use Rattle.board_core.specs.Split.{MaySplit}
-use Rattle.board_core.specs.KnownPages.{AreKept}
+use Rattle.board_core.specs.declared.tree.Reached.{Reached}
+use Rattle.board_core.specs.KnownPages.{place_of, AreKept, Lasts}
 use Rattle.board_core.specs.KnownRule.{Knows}
 use Rattle.board_core.specs.TreeRule.{CodeBegun, TreeRule}
 use Rattle.board_core.proofs.Everyone.{mine, moved}
@@ -28,7 +29,7 @@ use Rattle.board_core.proofs.Kept.{kept_same}
 use Rattle.board_core.proofs.TreeFrame.{same_placed, rows_stay, placed_split}
 use Rattle.board_core.proofs.ChainFrame.{IsAlone, KeepsPages}
 use Rattle.board_core.proofs.Linked.{held_free}
-use Rattle.board_core.proofs.Split.{splits, split_known, split_kept, leaf_place, no_more}
+use Rattle.board_core.proofs.Split.{is_low, splits, split_known, split_kept, leaf_place, no_more}
 
 module _ (k : Shape) (pool : PoolWords) (w u : ℕ → ℕ → ℕ) (c : ℕ → List ℕ) (old : ℕ → ℕ → Type 0) (vs : List View) (id : ℕ) (v : View) (a : Account) (m : ℕ → Place) (New : ℕ → Type 0) (q i leaf first : ℕ)
     (r : TreeRule k pool.states w c old vs) (rules : PoolRule k pool vs) (at : get_elem? vs id ≡ some v) (chain : 2 ≤ k.chain) (same : a.tree ≡ v.me.tree)
@@ -74,6 +75,12 @@ module _ (k : Shape) (pool : PoolWords) (w u : ℕ → ℕ → ℕ) (c : ℕ →
       (w leaf (2 + b.0), begun_stays (w leaf (2 + b.0)) (entry_begun b.0 b.1), b.2))
       (turn.either p h.linked)
 
+  -- a leaf of the last depth is not the one that is split
+  deeper : (y : Reached) → Lasts s r.place y → y.page ≢ leaf
+  deeper y l is =
+      let low : length (r.place y.page).path < chained = subst (λ (p : ℕ). length (r.place p).path < chained) (sym is) (is_low (length (r.place leaf).path) may.low) in
+      let deep : chained ≤ length (r.place y.page).path = subst (λ (P : Place). chained ≤ length P.path) (sym l.place) l.deep in omega arith
+
   one : (x : Account) → Knows w s r.place c (IsPlaced vs) old x.tree → Each (HeldFits s x.pool.announced) (held_in x.tree.reached) → Knows u z m c (IsPlaced ws) old x.tree
   one x h held =
       let free = held_free s x.pool.announced x.tree.reached held in
@@ -84,6 +91,7 @@ module _ (k : Shape) (pool : PoolWords) (w u : ℕ → ℕ → ℕ) (c : ℕ →
             (split_kept w u s z r.place m c (IsPlaced vs) New q i leaf first r.tree may put turn places (old x.tree.front) stands x.tree.reached h.known free h.kept j y there e);
         pairs = h.pairs;
         olds = λ n o. let d = h.olds n o in (plus n d.0, d.1);
+        lasts = λ j y there. let l = h.lasts j y there in record { leaf = l.leaf; deep = l.deep; linked = turn.stays y.page l.linked (deeper y l); place = places y.page l.linked ∙ l.place };
       }
 
   pub split_tree : TreeRule k pool.states u c old ws

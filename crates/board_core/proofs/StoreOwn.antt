@@ -37,7 +37,7 @@ use Rattle.board_core.proofs.PoolFrame.{each_both}
 use Rattle.board_core.proofs.PoolTree.{pool_stored}
 use Rattle.board_core.proofs.RowFrame.{rows_same}
 use Rattle.board_core.proofs.Kept.{kept_same}
-use Rattle.board_core.proofs.TreeStays.{tree_same, known_same}
+use Rattle.board_core.proofs.TreeStays.{tree_same, known_same, lasts_same}
 use Rattle.board_core.proofs.TreeFrame.{rows_stay, placed_split}
 use Rattle.board_core.proofs.Linked.{put_is, own_kept, held_free, unreached}
 use Rattle.board_core.proofs.Stepped.{words_moved}
@@ -101,6 +101,7 @@ knows_stored w u s z m c placed places old more less word plus t words k = recor
   kept = λ j x there leaf. ⊎_elim (λ (l : IsLinked s x.page). inl (more x.page l)) (λ (a : AreKept (w x.page) c placed x.path). inr (kept_same (w x.page) (u x.page) c placed places x.path plus (λ i _. words j x there (2 + i)) a)) (k.kept j x there leaf);
   pairs = k.pairs;
   olds = λ r o. let d = k.olds r o in (plus r d.0, d.1);
+  lasts = lasts_same s z m m more (λ p l. refl) t.lasting k.lasts;
 }
 
 stored_tree : (k : Shape) (pool : PoolWords) (w u : ℕ → ℕ → ℕ) (c : ℕ → List ℕ) (old : ℕ → ℕ → Type 0) (vs : List View) (id q i n : ℕ) (v : View) (b : Account) → TreeRule k pool.states w c old vs → PoolRule k pool vs → get_elem? vs id ≡ some v

@@ -16,7 +16,7 @@ use Rattle.board_core.specs.RoomRule.{SomeAccount}
 use Rattle.board_core.specs.Sheets.{Sheet, sheet_of, IsLinked, owns}
 use Rattle.board_core.specs.Rows.{HasRow, IsBegun, IsPlaced}
 use Rattle.board_core.specs.ClassTree.{Place, IsBelow, Tree, slot_at}
-use Rattle.board_core.specs.KnownPages.{ReachedFits, HasEarlier, IsInChain, EndTells, IsEnd, AreKept, KnowsPages, IsTurned}
+use Rattle.board_core.specs.KnownPages.{ReachedFits, HasEarlier, IsInChain, EndTells, IsEnd, AreKept, KnowsPages, IsTurned, Lasts}
 use Rattle.board_core.specs.KnownRule.{Knows, KnownRule}
 use Rattle.board_core.specs.TreeRule.{TreeRule}
 use Rattle.board_core.specs.After.{after_made, root}
@@ -24,7 +24,7 @@ use Rattle.board_core.proofs.Lists.{each_none, each_cons}
 use Rattle.board_core.proofs.Everyone.{mine, moved, changed, each_more, each_left, each_gathered}
 use Rattle.board_core.proofs.Some.{some_changed, some_more, some_left, some_gathered}
 use Rattle.board_core.proofs.KnownSteps.{arrives}
-use Rattle.board_core.proofs.TreeStays.{tree_same, known_same}
+use Rattle.board_core.proofs.TreeStays.{tree_same, known_same, lasts_same}
 use Rattle.board_core.proofs.Filled.{first_place, opens}
 use Rattle.board_core.proofs.PoolFrame.{sheet_same}
 
@@ -79,14 +79,15 @@ module _ (w : ℕ → ℕ → ℕ) (s z : Sheet) (m : ℕ → Place) (c d : ℕ 
         }) (k.kept j x there leaf);
     pairs = k.pairs;
     olds = λ r o. let e = k.olds r (fewer r o) in (plus r e.0, e.1);
+    lasts = lasts_same s z m m more (λ p l. refl) t.lasting k.lasts;
   }
 
 abbrev pub blank_tree : TreeAccount
-blank_tree = record { front = 0; reached = []; begun = []; placed = [] }
+blank_tree = record { front = 0; reached = []; lasting = []; begun = []; placed = [] }
 
 -- a caller that has reached nothing
-pub knows_nothing : (w : ℕ → ℕ → ℕ) (s : Sheet) (m : ℕ → Place) (c : ℕ → List ℕ) (placed : ℕ → Type 0) (old : ℕ → ℕ → Type 0) (t : TreeAccount) → t.reached ≡ [] → ((r : ℕ) → old t.front r → placed r × (r ≢ 0)) → Knows w s m c placed old t
-knows_nothing w s m c placed old t none olds = record {
+pub knows_nothing : (w : ℕ → ℕ → ℕ) (s : Sheet) (m : ℕ → Place) (c : ℕ → List ℕ) (placed : ℕ → Type 0) (old : ℕ → ℕ → Type 0) (t : TreeAccount) → t.reached ≡ [] → ((r : ℕ) → old t.front r → placed r × (r ≢ 0)) → Each (Lasts s m) t.lasting → Knows w s m c placed old t
+knows_nothing w s m c placed old t none olds lasts = record {
   known = subst (λ (l : List Reached). KnowsPages w s m c (old t.front) l) (sym none) record {
     fits = each_none (ReachedFits w s m);
     chain = each_none (IsInChain (old t.front) []);
@@ -98,12 +99,13 @@ knows_nothing w s m c placed old t none olds = record {
   kept = subst (λ (l : List Reached). Each (λ x. x.leaf ≡ true → IsLinked s x.page ⊎ AreKept (w x.page) c placed x.path) l) (sym none) (each_none (λ x. x.leaf ≡ true → IsLinked s x.page ⊎ AreKept (w x.page) c placed x.path));
   pairs = subst (λ (l : List Reached). Each (λ x. length x.links ≡ length x.slots) l) (sym none) (each_none (λ x. length x.links ≡ length x.slots));
   olds = olds;
+  lasts = lasts;
 }
 
 -- a caller that has reached the root
-pub knows_root : (w : ℕ → ℕ → ℕ) (s : Sheet) (m : ℕ → Place) (c : ℕ → List ℕ) (placed : ℕ → Type 0) (old : ℕ → ℕ → Type 0) → Tree w s m c placed → (t : TreeAccount) → t.reached ≡ root ∷ [] → ((r : ℕ) → old t.front r → placed r × (r ≢ 0)) → Knows w s m c placed old t
-knows_root w s m c placed old tree t is olds =
-    let none = knows_nothing w s m c placed old (record t { reached = [] }) refl olds in
+pub knows_root : (w : ℕ → ℕ → ℕ) (s : Sheet) (m : ℕ → Place) (c : ℕ → List ℕ) (placed : ℕ → Type 0) (old : ℕ → ℕ → Type 0) → Tree w s m c placed → (t : TreeAccount) → t.reached ≡ root ∷ [] → ((r : ℕ) → old t.front r → placed r × (r ≢ 0)) → Each (Lasts s m) t.lasting → Knows w s m c placed old t
+knows_root w s m c placed old tree t is olds lasts =
+    let none = knows_nothing w s m c placed old (record t { reached = [] }) refl olds lasts in
     let here : KnowsPages w s m c (old t.front) (root ∷ []) = arrives w s m c placed (old t.front) tree (λ r o. tree.placed r (olds r o).0) [] none.known root record {
       linked = tree.root;
       place = tree.top;
@@ -118,6 +120,7 @@ knows_root w s m c placed old tree t is olds =
           (each_cons (λ (x : Reached). x.leaf ≡ true → IsLinked s x.page ⊎ AreKept (w x.page) c placed x.path) root [] (λ leaf. absurd cc) (each_none (λ (x : Reached). x.leaf ≡ true → IsLinked s x.page ⊎ AreKept (w x.page) c placed x.path)));
       pairs = subst (λ (l : List Reached). Each (λ x. length x.links ≡ length x.slots) l) (sym is) (each_cons (λ (x : Reached). length x.links ≡ length x.slots) root [] refl (each_none (λ (x : Reached). length x.links ≡ length x.slots)));
       olds = olds;
+      lasts = lasts;
     }
 
 -- ---- the whole part
@@ -181,7 +184,7 @@ tree_lifted k f g w c d old older vs ws fewer none more less codes placed lift k
       begun = λ n. keeps (λ t. HasRow n t.begun) (no_row n);
       codes = codes;
       placed = placed;
-    } r (lift (λ t. Knows w (sheet_of g ws) r.place d (IsPlaced ws) older t) (knows_nothing w (sheet_of g ws) r.place d (IsPlaced ws) older blank_tree refl (λ a o. absurd (none a o))))
+    } r (lift (λ t. Knows w (sheet_of g ws) r.place d (IsPlaced ws) older t) (knows_nothing w (sheet_of g ws) r.place d (IsPlaced ws) older blank_tree refl (λ a o. absurd (none a o)) (each_none (Lasts (sheet_of g ws) r.place))))
 
 -- the sheet is the same
 pub linked_same : (s z : Sheet) → z ≡ s → (p : ℕ) → IsLinked s p → IsLinked z p
@@ -274,7 +277,7 @@ tree_open k f w c old none some_chain head blank first only =
       tree = tree_same w w (sheet_of f vs) (sheet_of f vs) (λ p. first_place) c (λ r. ⊥) (IsPlaced vs) (λ p l. l) (λ p l. l) (λ p i l. refl) (λ n h. absurd h) nobody t;
       ranks = λ p l. some_chain;
       begun = λ n p i h. absurd (h.some_n (sym h.there ∙ (ap (λ x. w x (slot_at false i)) (only p h.linked.busy) ∙ blank (2 + 2 * i) (omega arith))));
-      known = each_open (λ t. Knows w (sheet_of f vs) (λ p. first_place) c (IsPlaced vs) old t) (knows_nothing w (sheet_of f vs) (λ p. first_place) c (IsPlaced vs) old blank_tree refl (λ a o. absurd (none a o)));
+      known = each_open (λ t. Knows w (sheet_of f vs) (λ p. first_place) c (IsPlaced vs) old t) (knows_nothing w (sheet_of f vs) (λ p. first_place) c (IsPlaced vs) old blank_tree refl (λ a o. absurd (none a o)) (each_none (Lasts (sheet_of f vs) (λ p. first_place))));
     }
   where
     each_open : (F : TreeAccount → Type 0) → F blank_tree → EachAccount (λ x. F x.tree) (opener k ∷ [])

@@ -4,8 +4,12 @@ use Rattle.board_core.specs.declared.tree.Reached.{Reached}
 use Rattle.board_core.specs.Each.{Each}
 use Rattle.board_core.specs.Sheets.{Sheet, IsLinked}
 use Rattle.board_core.specs.ClassTree.{Place, at_way, slot_at, Follows, PageStands, IsFrom, HasSlot, Stands, Tree}
-use Rattle.board_core.specs.KnownPages.{IsFullLeaf, KnowsPages}
+use Rattle.board_core.specs.KnownPages.{IsFullLeaf, KnowsPages, Lasts}
 use Rattle.board_core.proofs.KnownSteps.{turned_stays, known_words}
+
+-- leaves of the last depth that stay linked where they stood
+pub lasts_same : (s z : Sheet) (m v : ℕ → Place) → ((p : ℕ) → IsLinked s p → IsLinked z p) → ((p : ℕ) → IsLinked s p → v p ≡ m p) → (xs : List Reached) → Each (Lasts s m) xs → Each (Lasts z v) xs
+lasts_same s z m v more same xs h j x there = let l = h j x there in record { leaf = l.leaf; deep = l.deep; linked = more x.page l.linked; place = same x.page l.linked ∙ l.place }
 
 module _ (w u : ℕ → ℕ → ℕ) (s z : Sheet) (m : ℕ → Place) (codes : ℕ → List ℕ) (put puts : ℕ → Type 0)
     (more : (p : ℕ) → IsLinked s p → IsLinked z p) (less : (p : ℕ) → IsLinked z p → IsLinked s p) (word : (p i : ℕ) → IsLinked s p → u p i ≡ w p i) where

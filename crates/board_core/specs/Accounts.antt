@@ -34,7 +34,7 @@ account who seen = record {
   log = record { seen = seen; holding = Away; pending = nothing };
   room = record { used = []; sealed = []; published = [] };
   pool = record { announced = 0; risen = 0; first = 0; low = 0; passed = 0; own = []; parted = [] };
-  tree = record { front = 0; reached = []; begun = []; placed = [] };
+  tree = record { front = 0; reached = []; lasting = []; begun = []; placed = [] };
   counts = record { linked = 0 };
   loads = no_loads;
   entries = [];

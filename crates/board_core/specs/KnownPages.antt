@@ -19,6 +19,13 @@ pub record IsFullLeaf (page : ℕ → ℕ) (x : Reached) : Type 0 where
   pub more : page 1 ≡ 0
   pub full : (i : ℕ) → i < 14 → page (2 + i) ≢ 0
 
+-- a leaf of the last depth that stands in the tree. It is never split, so it stands there for good
+pub record Lasts (s : Sheet) (m : ℕ → Place) (x : Reached) : Type 0 where
+  pub leaf : x.leaf ≡ true
+  pub deep : chained ≤ length x.path
+  pub linked : IsLinked s x.page
+  pub place : m x.page ≡ place_of x
+
 pub record ReachedFits (w : ℕ → ℕ → ℕ) (s : Sheet) (m : ℕ → Place) (x : Reached) : Type 0 where
   pub inner : x.leaf ≡ false → IsLinked s x.page
   pub place : IsLinked s x.page → m x.page ≡ place_of x

@@ -31,11 +31,12 @@ pub struct Reached {
     pub more: Link,
 }
 
-/// The tree part: the front seen at the pin (0 once a leaf was passed unread), the pages reached since, the rows begun
-/// and those placed.
+/// The tree part: the front seen at the pin (0 once a leaf was passed unread), the pages reached since, the leaves of
+/// the last depth that it keeps in mind beyond its pin, which stay where they are, the rows begun and those placed.
 pub struct TreeAccount {
     pub front: u64,
     pub reached: LinkedList<Reached>,
+    pub lasting: LinkedList<Reached>,
     pub begun: LinkedList<Row>,
     pub placed: LinkedList<Row>,
 }

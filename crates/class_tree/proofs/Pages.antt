@@ -42,6 +42,10 @@ pub some_slot : (n : ℕ) (x : Reached) → n ≢ 0 → with_slot n x ≡ slot_m
 some_slot zero x some_n = absurd (some_n refl)
 some_slot (suc n) x some_n = refl
 
+slot_page : (n : ℕ) (x : Reached) → (with_slot n x).page ≡ x.page
+slot_page zero x = refl
+slot_page (suc n) x = refl
+
 slot_place : (n : ℕ) (x : Reached) → place_of (with_slot n x) ≡ place_of x
 slot_place zero x = refl
 slot_place (suc n) x = refl
@@ -140,7 +144,7 @@ high_slot a s depth n within h j less inner = dite (ℕ_discrete j s.number)
 -- ---- reading on in one page
 
 pub reads_same : (c : Seated) (n : ℕ) → Reads c c n
-reads_same c n = record { only = refl; size = refl; others = λ j other. refl; place = refl }
+reads_same c n = record { only = refl; size = refl; others = λ j other. refl; place = refl; page = refl }
 
 pub reads_slot : (c d : Seated) (s : Stop) (n : ℕ) → s.number < length c.account.tree.reached → d ≡ with_account c (after_slot c.account s.number n) → Reads c d s.number
 reads_slot c d s n within e = subst (λ (x : Seated). Reads c x s.number) (sym e) record {
@@ -148,6 +152,7 @@ reads_slot c d s n within e = subst (λ (x : Seated). Reads c x s.number) (sym e
   size = size_slot c.account s n;
   others = other_slot c.account s n;
   place = ap place_of (here_slot c.account s n within) ∙ slot_place n (here c.account s);
+  page = ap (λ (x : Reached). x.page) (here_slot c.account s n within) ∙ slot_page n (here c.account s);
 }
 
 pub reads_on : (c d e : Seated) (n : ℕ) → Reads c d n → Reads d e n → Reads c e n
@@ -156,6 +161,7 @@ reads_on c d e n first then = record {
   size = then.size ∙ first.size;
   others = λ j other. then.others j other ∙ first.others j other;
   place = then.place ∙ first.place;
+  page = then.page ∙ first.page;
 }
 
 pub reads_of : (b : Place) (c d : Seated) (n : ℕ) → IsOf b c → Reads c d n → IsOf b d

@@ -8,10 +8,13 @@ use Rattle.board_core.specs.declared.account.Account.{Account}
 use Rattle.board_core.specs.declared.tree.Link.TheVariants.{Unread}
 use Rattle.board_core.specs.KnownPages.{place_of}
 use Rattle.board_core.specs.Loaded.{IsPage}
-use Rattle.board.specs.Seated.{Seated}
+use Rattle.board_core.specs.ChainRule.{HasWalked}
+use Rattle.board.specs.Seated.{Seated, with_account}
+use Rattle.class_tree.specs.Inserting.{HasFullChain}
 use Rattle.class_tree.specs.declared.link.Step.{Step}
 use Rattle.class_tree.specs.declared.link.Step.TheVariants.{Placed, Down}
 use Rattle.class_tree.specs.declared.walks.Stop.{Stop}
+use Rattle.class_tree.specs.declared.walks.Ranked.{Ranked}
 use Rattle.class_tree.specs.declared.walks.Slot.{Slot}
 use Rattle.class_tree.specs.declared.walks.Target.{Target}
 use Rattle.class_tree.specs.Walking.{here, Goes, AreHigh, IsFresh, IsAt, IsTarget, IsDown, IsAtLeaf, Places}
@@ -33,6 +36,7 @@ GoesBehind k c d s depth rank t (Some next) = IsNextLeaf k c d s next depth rank
 pub record IsPastLeaf (k : Shape) (c d : Seated) (s next : Stop) (depth rank : ℕ) (t : Target) : Type 0 where
   pub goes : Goes s.number c d
   pub place : place_of (here d.account s) ≡ place_of (here c.account s)
+  pub page : (here d.account s).page ≡ (here c.account s).page
   pub number : next.number ≡ s.number + 1
   pub leaf : IsAtLeaf k d.account next depth (rank + 1) 0 t
   pub linked : d.account.counts ≡ c.account.counts
@@ -41,6 +45,52 @@ pub record IsPastLeaf (k : Shape) (c d : Seated) (s next : Stop) (depth rank : �
 abbrev pub GoesPast : Shape → Seated → Seated → Stop → ℕ → ℕ → Target → Option Stop → Type 0
 GoesPast k c d s depth rank t None = Places c d t.row
 GoesPast k c d s depth rank t (Some next) = IsPastLeaf k c d s next depth rank t
+
+-- the first leaf of the chain of the row's five codes was reached
+pub record IsFirst (k : Shape) (a : Account) (s : Stop) (t : Target) : Type 0 where
+  pub inside : IsPage k s.page
+  pub reached : s.number < length a.tree.reached
+  pub there : (here a s).page ≡ s.page
+  pub on : (here a s).path ≡ take 5 t.codes
+  pub at : (here a s).rank ≡ 0
+  pub kind : (here a s).leaf ≡ true
+
+-- own pages and those that are kept for later are as they were, and so is what was counted
+pub record KeepsPages (c d : Seated) : Type 0 where
+  pub pool : d.account.pool ≡ c.account.pool
+  pub stock : d.stock ≡ c.stock
+  pub counts : d.account.counts ≡ c.account.counts
+
+-- from the first leaf of a chain the walk came to a leaf of that chain, of which nothing is known
+pub record ComesTo (k : Shape) (c d : Seated) (first : Stop) (x : Ranked) (t : Target) : Type 0 where
+  pub goes : Goes 0 c d
+  pub pages : KeepsPages c d
+  pub first_is : IsFirst k d.account first t
+  pub leaf : IsAtLeaf k d.account x.stop 5 x.rank 0 t
+  pub number : x.stop.number ≤ first.number + 1
+  pub less : x.rank < k.chain
+
+-- only the leaves that it keeps in mind may have changed
+abbrev pub KeepsMind : Seated → Seated → Type 0
+KeepsMind c d = d ≡ with_account c
+    (record c.account { tree = record c.account.tree { lasting = d.account.tree.lasting } })
+
+-- the last leaf that a chain may have was read to its end from this one on, and each is full from there
+pub record FindsFull (k : Shape) (c d : Seated) (first : Stop) (x : Ranked) (last : Stop) (t : Target) : Type 0 where
+  pub goes : Goes 0 c d
+  pub counts : d.account.counts ≡ c.account.counts
+  pub first_is : IsFirst k d.account first t
+  pub walked : HasWalked d.account k.chain
+  pub target : IsTarget k d.account t
+  pub pinned : 0 < d.account.pool.announced
+  pub size : length d.account.tree.reached ≡ last.number + 1
+  pub number : last.number ≤ x.stop.number + 65536
+  pub full : x.rank ≡ 0 → HasFullChain k d.account t.row
+
+-- the row was placed, or the chain is full
+abbrev pub FillsOr : Shape → Seated → Seated → Stop → Ranked → Target → Option Stop → Type 0
+FillsOr k c d first x t None = Places c d t.row
+FillsOr k c d first x t (Some last) = FindsFull k c d first x last t
 
 -- the row's code of this depth stands in this slot of an inner page that was reached, and its link may be loaded
 pub record IsPair (k : Shape) (a : Account) (x : Slot) (depth : ℕ) (t : Target) : Type 0 where

@@ -63,11 +63,12 @@ rest_of a = record {
 
 -- what is known of a page apart from the words that lead on
 pub record Shown : Type 0 where
+  pub page : ℕ
   pub place : Place
   pub slots : List ℕ
 
 abbrev pub shown_of : Reached → Shown
-shown_of x = record { place = place_of x; slots = x.slots }
+shown_of x = record { page = x.page; place = place_of x; slots = x.slots }
 
 -- no inner page was reached below this depth
 abbrev pub AreHigh : Account → ℕ → Type 0
@@ -171,6 +172,7 @@ pub record Reads (c d : Seated) (number : ℕ) : Type 0 where
   pub size : length d.account.tree.reached ≡ length c.account.tree.reached
   pub others : (j : ℕ) → j ≢ number → visited d.account.tree.reached j ≡ visited c.account.tree.reached j
   pub place : place_of (visited d.account.tree.reached number) ≡ place_of (visited c.account.tree.reached number)
+  pub page : (visited d.account.tree.reached number).page ≡ (visited c.account.tree.reached number).page
 
 -- the search for the row's code goes on at the next page of the chain, and the page before it is full
 pub record IsNext (k : Shape) (c d : Seated) (s next : Stop) (depth rank : ℕ) (t : Target) : Type 0 where

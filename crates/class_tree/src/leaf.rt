@@ -1,17 +1,23 @@
 // Rows in one leaf, and in a chain of leaves.
-ghost use Rattle.std.specs.Prelude.{◌≡◌, ◌≢◌, ℕ, ◌+◌, ◌*◌, ◌<◌, ◌≤◌, ◌^◌, MatchResult, MatchBool};
+ghost use Rattle.std.specs.Prelude.{◌≡◌, ◌≢◌, ℕ, ◌+◌, ◌*◌, ◌<◌, ◌≤◌, ◌^◌, MatchResult, MatchBool, length};
 ghost use Rattle.board.specs.Seated.{IsOf, IsLoader, with_account};
 ghost use Rattle.board_core.specs.After.{after_slot, after_entry};
 ghost use Rattle.board_core.specs.Steps.{MayLink};
 ghost use Rattle.class_tree.specs.Inserting.{IsStocked};
-ghost use Rattle.class_tree.specs.Walking.{IsAtLeaf, Reads, Places, EntersRow};
-ghost use Rattle.class_tree.specs.Linking.{GoesBehind, GoesPast};
+ghost use Rattle.class_tree.specs.Walking.{IsAtLeaf, IsTarget, Reads, Places, EntersRow};
+ghost use Rattle.class_tree.specs.Linking.{GoesBehind, GoesPast, IsFirst, ComesTo, KeepsMind, FillsOr};
 ghost use Rattle.class_tree.specs.Refusing.{WasRefused, Stops};
 
 use crate::insert::{InsertError, refuse_chain};
-use crate::walks::{Stop, Target, header_word, make_page, stop_at};
-use board::{Board, Caller, claim_entry, link_next_leaf, load_more, load_slot, pass_leaf};
+use crate::walks::{Ranked, Stop, Target, header_word, make_page, stop_at};
+use board::{
+    Board, Caller, claim_entry, keep_leaves, link_next_leaf, load_more, load_slot, pass_leaf,
+    reach_again, recall_leaf,
+};
 use page_pool::{NoPage, keep};
+
+// From this rank on a leaf is kept in mind: a shorter chain is walked as fast.
+const KEPT_FROM: u32 = 2;
 
 // Reads the entry of this slot, or puts the row there: the answer is 0 where it did.
 fn enter(
@@ -141,8 +147,129 @@ fn go_past(
     next_leaf(board, caller, at, rank, target)
 }
 
-// Puts the row into the chain of leaves of the last depth that begins at this leaf. It reads the entries of no leaf
-// that has a next one.
+// A leaf of the chain that begins at this one: a later one, where the caller keeps one in mind.
+fn recall(board: &Board, caller: &mut Caller, first: Stop, _target: &Target) -> Ranked
+    requires fits { IsOf board.now caller.old }
+    requires leaf { IsAtLeaf board.now.shape caller.old.account first 5 0 0 _target.now }
+    requires number { first.number < 2 ^ 32 }
+    ensures { ComesTo board.now.shape caller.old caller.new first result _target.now }
+{
+    let _limits = board.shape();
+    match recall_leaf(board, caller, first.page, first.number) {
+        Some(leaf) => {
+            let number = first.number + 1;
+            let page = leaf.page;
+            Ranked {
+                stop: Stop { page, number },
+                rank: leaf.rank,
+            }
+        }
+        None => Ranked {
+            stop: first,
+            rank: 0,
+        },
+    }
+}
+
+// Keeps in mind where the chain goes on, once that spares some loads.
+fn remember(board: &Board, caller: &mut Caller, first: Stop, at: Stop, rank: u32, _target: &Target)
+    requires fits { IsOf board.now caller.old }
+    requires first { IsFirst board.now.shape caller.old.account first _target.now }
+    requires leaf { IsAtLeaf board.now.shape caller.old.account at 5 (rank + 1) 0 _target.now }
+    ensures { KeepsMind caller.old caller.new }
+{
+    if rank < KEPT_FROM {
+        return;
+    }
+    keep_leaves(board, caller, first.page, first.number, at.page, at.number);
+}
+
+// Puts the row into a chain of leaves of the last depth, from this leaf on. Else the last one that the chain may have
+// was read to its end. It reads the entries of no leaf that has a next one.
+fn fill_from(
+    board: &Board,
+    caller: &mut Caller,
+    first: Stop,
+    from: Ranked,
+    target: &Target,
+) -> Result<Option<Stop>, NoPage>
+    requires fits { IsOf board.now caller.old }
+    requires loader { IsLoader caller.old }
+    requires stocked { IsStocked caller.old }
+    requires first { IsFirst board.now.shape caller.old.account first target.now }
+    requires before { first.number ≤ from.stop.number }
+    requires leaf { IsAtLeaf board.now.shape caller.old.account from.stop 5 from.rank 0 target.now }
+    requires rank { from.rank < board.now.shape.chain }
+    requires few { MayLink caller.old.account 1 }
+    requires number { from.stop.number ≤ 65537 * 7 }
+    ensures of { IsOf board.now caller.new }
+    ensures loader { IsLoader caller.new }
+    ensures stocked { IsStocked caller.new }
+    ensures placed { MatchResult result
+        (λ last. FillsOr board.now.shape caller.old caller.new first from target.now last)
+        (λ _. WasRefused board.now.shape caller.old caller.new 1) }
+{
+    let chain = board.shape().chain;
+    let mut at = from.stop;
+    for rank in from.rank..chain - 1 {
+        match go_past(board, caller, at, rank, target) {
+            Ok(None) => return Ok(None),
+            Ok(Some(next)) => {
+                remember(board, caller, first, next, rank, target);
+                at = next;
+            }
+            Err(none) => return Err(none),
+        }
+    }
+    if fill_leaf(board, caller, at, 5, chain - 1, target) {
+        return Ok(None);
+    }
+    Ok(Some(at))
+}
+
+// Puts the row into the chain of leaves that begins at this leaf, from its first leaf on. Where that has no room, each
+// page that the chain may have was reached.
+fn fill_again(
+    board: &Board,
+    caller: &mut Caller,
+    first: Stop,
+    last: Stop,
+    target: &Target,
+) -> Result<(), InsertError>
+    requires fits { IsOf board.now caller.old }
+    requires loader { IsLoader caller.old }
+    requires stocked { IsStocked caller.old }
+    requires first { IsFirst board.now.shape caller.old.account first target.now }
+    requires target { IsTarget board.now.shape caller.old.account target.now }
+    requires pinned { 0 < caller.old.account.pool.announced }
+    requires size { length caller.old.account.tree.reached ≡ last.number + 1 }
+    requires few { MayLink caller.old.account 1 }
+    requires number { last.number < 65537 * 7 }
+    ensures of { IsOf board.now caller.new }
+    ensures loader { IsLoader caller.new }
+    ensures stocked { IsStocked caller.new }
+    ensures placed { MatchResult result (λ _. Places caller.old caller.new target.now.row)
+        (λ e. Stops board.now.shape caller.old caller.new target.now.row e) }
+{
+    let _limits = board.shape();
+    reach_again(board, caller, first.page, first.number);
+    let again = Stop {
+        page: first.page,
+        number: last.number + 1,
+    };
+    let from = Ranked {
+        stop: again,
+        rank: 0,
+    };
+    match fill_from(board, caller, again, from, target) {
+        Ok(None) => Ok(()),
+        Ok(Some(_)) => Err(refuse_chain(board, caller)),
+        Err(_) => Err(InsertError::NoPage),
+    }
+}
+
+// Puts the row into the chain of leaves of the last depth that begins at this leaf. It goes on at the last leaf that
+// the caller keeps in mind of the chain. Where there is no room from there on, it walks the whole chain.
 pub(crate) fn fill_chain(
     board: &Board,
     caller: &mut Caller,
@@ -161,17 +288,14 @@ pub(crate) fn fill_chain(
     ensures placed { MatchResult result (λ _. Places caller.old caller.new target.now.row)
         (λ e. Stops board.now.shape caller.old caller.new target.now.row e) }
 {
-    let chain = board.shape().chain;
-    let mut at = first;
-    for rank in 0..chain - 1 {
-        match go_past(board, caller, at, rank, target) {
-            Ok(None) => return Ok(()),
-            Ok(Some(next)) => at = next,
-            Err(_) => return Err(InsertError::NoPage),
-        }
+    let from = recall(board, caller, first, target);
+    let last = match fill_from(board, caller, first, from, target) {
+        Ok(None) => return Ok(()),
+        Ok(Some(last)) => last,
+        Err(_) => return Err(InsertError::NoPage),
+    };
+    if from.rank == 0 {
+        return Err(refuse_chain(board, caller));
     }
-    if fill_leaf(board, caller, at, 5, chain - 1, target) {
-        return Ok(());
-    }
-    Err(refuse_chain(board, caller))
+    fill_again(board, caller, first, last, target)
 }

@@ -18,6 +18,13 @@ pub struct Stop {
     pub number: u64,
 }
 
+/// A leaf that a walk stands at, and its rank in its chain, from 0.
+#[derive(Clone, Copy)]
+pub struct Ranked {
+    pub stop: Stop,
+    pub rank: u32,
+}
+
 /// A pair of an inner page: a code and its link. Pairs count from 0.
 #[derive(Clone, Copy)]
 pub struct Slot {

@@ -26,7 +26,7 @@ compare_exchange-requires g c =
     )
 
 pub invariant_of-caller : goal.invariant_of-caller
-invariant_of-caller g c = (exchange_seat _ _ c.caller.inside.seen c.caller.inside.used c.caller.inside.loader c.caller.inside.number c.caller.inside.stock.items c.caller.inside.next _ _ _ _ c.requires.is c.compare_exchange.ensures.2
+invariant_of-caller g c = (exchange_seat _ _ c.caller.inside.seen c.caller.inside.used c.caller.inside.loader c.caller.inside.number c.caller.inside.stock.items c.caller.inside.tails c.caller.inside.next _ _ _ _ c.requires.is c.compare_exchange.ensures.2
     (of_seated (λ (x : Seated). Each (λ n. ¬ (IsAmong x.stock n)) c.args.numbers.now) _ _ _ _ _ _ c.caller.view_is c.requires.free) record { facts = c.caller.invariant }).facts
 
 pub returns : goal.returns

@@ -7,6 +7,7 @@ use Rattle.board_core.specs.Loaded.{IsPage}
 use Rattle.board_core.specs.Steps.{Mine}
 use Rattle.board.specs.Seated.{Place}
 use Rattle.board.proofs.Stocks.{stock_empty}
+use Rattle.board.proofs.TailWords.{no_tails}
 use Rattle.board.proofs.open.make_caller.Goals as goal
 
 pub split_seat-seat-requires : goal.split_seat-seat-requires
@@ -34,4 +35,5 @@ invariant_of-result c =
       search rules,
       stock_empty _ _ _ c.new.ensures,
       subst (λ (k : Shape). IsPage k 1) shape (omega arith, some_page _ c.board.invariant.2),
+      no_tails _ _ 4096 _ refl,
     )

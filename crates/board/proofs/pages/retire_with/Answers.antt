@@ -19,4 +19,4 @@ store-requires g c =
     )
 
 pub invariant_of-caller : goal.invariant_of-caller
-invariant_of-caller g c = (retire_seat c.caller.inside.seen c.caller.inside.used c.caller.inside.loader c.caller.inside.number c.caller.inside.stock.items c.caller.inside.next g.P.Paged.page _ _ c.store.ensures.2 record { facts = c.caller.invariant }).facts
+invariant_of-caller g c = (retire_seat c.caller.inside.seen c.caller.inside.used c.caller.inside.loader c.caller.inside.number c.caller.inside.stock.items c.caller.inside.tails c.caller.inside.next g.P.Paged.page _ _ c.store.ensures.2 record { facts = c.caller.invariant }).facts

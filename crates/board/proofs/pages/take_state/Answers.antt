@@ -20,4 +20,4 @@ compare_exchange-requires g c =
     )
 
 pub invariant_of-caller : goal.invariant_of-caller
-invariant_of-caller g c = (page_seat c.caller.inside.seen c.caller.inside.used c.caller.inside.loader c.caller.inside.number c.caller.inside.stock.items c.caller.inside.next _ _ _ _ _ c.compare_exchange.ensures.2 record { facts = c.caller.invariant }).facts
+invariant_of-caller g c = (page_seat c.caller.inside.seen c.caller.inside.used c.caller.inside.loader c.caller.inside.number c.caller.inside.stock.items c.caller.inside.tails c.caller.inside.next _ _ _ _ _ c.compare_exchange.ensures.2 record { facts = c.caller.invariant }).facts

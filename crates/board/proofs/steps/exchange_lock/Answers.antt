@@ -17,4 +17,4 @@ compare_exchange-requires c = (
 )
 
 pub invariant_of-caller : goal.invariant_of-caller
-invariant_of-caller c = (lock_seat c.caller.inside.seen c.caller.inside.used c.caller.inside.loader c.caller.inside.number c.caller.inside.stock.items c.caller.inside.next _ _ _ _ c.compare_exchange.ensures.2 record { facts = c.caller.invariant }).facts
+invariant_of-caller c = (lock_seat c.caller.inside.seen c.caller.inside.used c.caller.inside.loader c.caller.inside.number c.caller.inside.stock.items c.caller.inside.tails c.caller.inside.next _ _ _ _ c.compare_exchange.ensures.2 record { facts = c.caller.invariant }).facts

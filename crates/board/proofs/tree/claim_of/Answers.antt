@@ -23,7 +23,7 @@ compare_exchange-requires g c =
     )
 
 pub invariant_of-caller : goal.invariant_of-caller
-invariant_of-caller g c = (claim_seat g.C.Claims.claim c.caller.inside.seen c.caller.inside.used c.caller.inside.loader c.caller.inside.number c.caller.inside.stock.items c.caller.inside.next _ _ _ _ c.compare_exchange.ensures.2
+invariant_of-caller g c = (claim_seat g.C.Claims.claim c.caller.inside.seen c.caller.inside.used c.caller.inside.loader c.caller.inside.number c.caller.inside.stock.items c.caller.inside.tails c.caller.inside.next _ _ _ _ c.compare_exchange.ensures.2
     (of_seated (λ (x : Seated). (p : ℕ) → IsAmong x.stock p → owns p x.account.pool.own ≤ owns p (after_claim x.account g.C.Claims.claim).pool.own) _ _ _ _ _ _ c.caller.view_is c.requires.stock) record { facts = c.caller.invariant }).facts
 
 pub returns : goal.returns

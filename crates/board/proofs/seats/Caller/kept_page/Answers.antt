@@ -8,8 +8,8 @@ use Rattle.board.proofs.seats.Caller.kept_page.Goals as goal
 
 pub invariant_of-self : goal.invariant_of-self
 invariant_of-self c =
-    let (seen, who, kept, none, used, limits, stock, next) = c.self.invariant in
-    (seen, who, kept, none, used, limits, stock_popped _ _ _ _ c.pop.result c.pop.ensures.items stock, next)
+    let (seen, who, kept, none, used, limits, stock, next, tails) = c.self.invariant in
+    (seen, who, kept, none, used, limits, stock_popped _ _ _ _ c.pop.result c.pop.ensures.items stock, next, tails)
 
 pub returns-clause-some : goal.returns-clause-some
 returns-clause-some c =
