@@ -6,8 +6,8 @@ pub mod Taken
 pub mod Entries
 pub mod AtomSets
 pub mod Passing
+pub mod Walking
 pub mod Made
-pub mod BlockLines
-pub mod Endings
+pub mod Records
 pub mod HeaderNames
 pub mod Outcomes

@@ -13,7 +13,7 @@ use Rattle.mol_section.specs.Fields.{field, begins, number_of}
 use Rattle.mol_section.specs.SectionLines.{symbol_value, charge_value, entries, listed_entries, line_entries, listed_charge, listed_mass, lists_charges, lists_masses, is_place}
 use Rattle.mol_section.specs.SectionRecord.{last_entry, all_entries, sets_charges_aside}
 use Rattle.mol_section.specs.PropertyLines.{no_atom, put_charge, put_mass, no_charge, sets_aside, set_aside, put_charges, put_masses, with_property, entries_if}
-use Rattle.mol_section.specs.Walk.{made_atoms}
+use Rattle.mol_section.specs.Records.{made_atoms}
 
 abbrev Numbered : Type 0
 Numbered = ℕ × List ℕ

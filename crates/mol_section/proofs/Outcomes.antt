@@ -1,15 +1,11 @@
 -- The outcome of a section, from what its reader found.
-use Rattle.std.proofs.Common.{◌≡◌, ◌⊎◌, ℕ, suc, ◌+◌, ◌≤◌, true, false, eqb, List, [], ◌∷◌, length, map, refl, sym, ap, ◌∙◌, inl, inr, arith}
+use Rattle.std.proofs.Common.{◌≡◌, ◌⊎◌, ℕ, suc, ◌≤◌, true, false, eqb, List, [], ◌∷◌, length, map, refl, sym, ap, ◌∙◌, inl, inr, arith}
 use Rattle.std.specs.Prelude.{Some, None, IsSome, slice_get, is_some}
 use Rattle.std.proofs.lemmas.Bool.{cases_Bool}
 use Rattle.std.proofs.lemmas.List.{length-map, drop_all}
-use Rattle.htss_defs.specs.declared.mol.Atom.{Atom}
-use Rattle.htss_defs.specs.declared.mol.Bond.{Bond}
-use Rattle.mol_section.specs.declared.counts.Counts.{Counts}
 use Rattle.mol_section.specs.Lines.{lines_of, raw_lines, onto_first, without_cr}
 use Rattle.mol_section.specs.SectionLines.{Kind, end_mark, kinds_of, kinds_after, block_kinds}
-use Rattle.mol_section.specs.SectionRecord.{refused, IsOutcome}
-use Rattle.mol_section.specs.Walk.{IsRead, IsStop}
+use Rattle.mol_section.specs.SectionRecord.{HasEnd}
 use Rattle.mol_section.proofs.RawLines.{raw_lines-nil}
 
 long_first : (b : ℕ) (lines : List (List ℕ)) (n : ℕ) → length lines ≤ n → length (onto_first b lines) ≤ suc n
@@ -33,15 +29,12 @@ no_kinds : kinds_of [] ≡ []
 no_kinds = ap (kinds_after false) (drop_all (length (block_kinds [])) (let none : List (List ℕ) = [] in none) (omega arith))
 
 -- a section that ends has a line
-pub some_line : (lines : List (List ℕ)) (sizes : Counts) (atoms : List Atom) (bonds : List Bond) → IsRead lines sizes atoms bonds → IsSome (slice_get lines 0)
-some_line [] sizes atoms bonds r = let none : None ≡ Some end_mark = ap (λ (x : List Kind). slice_get x r.whole.ends.0) (sym no_kinds) ∙ r.whole.ends.1 in absurd cc
-some_line (line ∷ lines) sizes atoms bonds r = refl
+pub some_line : (lines : List (List ℕ)) → HasEnd lines → IsSome (slice_get lines 0)
+some_line [] ends = let none : None ≡ Some end_mark = ap (λ (x : List Kind). slice_get x ends.0) (sym no_kinds) ∙ ends.1 in absurd cc
+some_line (line ∷ lines) ends = refl
 
 pub no_line : (bytes : List ℕ) → bytes ≡ [] → IsSome (slice_get (lines_of bytes) 0) → ⊥
 no_line bytes none some =
     let same : slice_get (lines_of bytes) 0 ≡ None = ap (λ (b : List ℕ). slice_get (lines_of b) 0) none ∙ ap (λ (l : List (List ℕ)). slice_get (map without_cr l) 0) raw_lines-nil in
     let wrong : false ≡ true = sym (ap is_some same) ∙ some in
     absurd cc
-
-pub refused_at : (lines : List (List ℕ)) (first line code : ℕ) → IsStop lines line code → IsOutcome first lines (refused (first + line) code)
-refused_at lines first line code stop = (line, refl, stop.why)

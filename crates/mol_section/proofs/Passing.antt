@@ -1,14 +1,14 @@
 -- One line more is passed, or the section stops at it.
-use Rattle.std.proofs.Common.{◌≡◌, ◌⊎◌, ℕ, zero, suc, ◌+◌, ◌-◌, ◌<◌, ◌≤◌, false, ltb, List, [], ◌∷◌, ◌++◌, length, map, get_or, refl, sym, ap, subst, ◌∙◌, inl, inr, append_assoc, arith}
+use Rattle.std.proofs.Common.{◌≡◌, ◌⊎◌, ℕ, zero, suc, ◌+◌, ◌-◌, ◌<◌, ◌≤◌, Bool, false, ltb, List, [], ◌∷◌, ◌++◌, length, map, get_or, refl, sym, ap, subst, ◌∙◌, inl, inr, append_assoc, arith}
 use Rattle.std.specs.Prelude.{Option, Some, None, slice_get, if◌then◌else◌}
 use Rattle.std.specs.List.{zip, filter_map}
 use Rattle.std.proofs.lemmas.Bool.{cases_lt, cases_eq, false≢true, cond-true, cond-false, lt-ltb, le-ltb}
 use Rattle.std.proofs.lemmas.List.{append-nil, length-append, length_push, get_or_at}
 use Rattle.std.proofs.lemmas.List.Elements.{filter_map-append}
 use Rattle.std.proofs.lemmas.Option.{same_Some}
-use Rattle.mol_section.specs.SectionLines.{Kind, atom, bond, property, end_mark, after_end, kinds_of, refusal, line_at}
-use Rattle.mol_section.specs.SectionRecord.{AcceptsLines, LineRefusal, kind_is, lines_of_kind}
-use Rattle.mol_section.specs.Walk.{IsStop, IsPassed, IsWhole, picked}
+use Rattle.mol_section.specs.SectionLines.{Kind, header, counts, atom, bond, atom_list, property, passed_over, end_mark, after_end, kinds_of, line_at, atom_count}
+use Rattle.mol_section.specs.SectionRecord.{HasEnd, kind_is}
+use Rattle.mol_section.specs.Walk.{Refusals, bounded, IsRefusal, Accepts, IsStop, IsPassed, Parts, with_line, is_list, picked, parts_of}
 
 -- a value at the front of what follows
 pub at_end : {X : Type 0} (xs : List X) (x : X) (ys : List X) (n : ℕ) → length xs ≡ n → slice_get (xs ++ x ∷ ys) n ≡ Some x
@@ -32,11 +32,6 @@ in_front [] ys i lt = absurd (omega arith)
 in_front (x ∷ xs) ys zero lt = refl
 in_front (x ∷ xs) ys (suc i) lt = in_front xs ys i (omega arith)
 
-within_get : {X : Type 0} (xs : List X) (i : ℕ) (x : X) → slice_get xs i ≡ Some x → i < length xs
-within_get [] i x e = absurd cc
-within_get (y ∷ xs) zero x e = omega arith
-within_get (y ∷ xs) (suc i) x e = let more = within_get xs i x e in omega arith
-
 pub zip_push : {X Y : Type 0} (xs : List X) (ys : List Y) (x : X) (y : Y) (n : ℕ) → length xs ≡ n → length ys ≡ n → zip (xs ++ x ∷ []) (ys ++ y ∷ []) ≡ zip xs ys ++ (x, y) ∷ []
 zip_push [] [] x y n lx ly = refl
 zip_push [] (b ∷ ys) x y n lx ly = absurd (omega arith)
@@ -51,29 +46,68 @@ zip_front (a ∷ xs) xs' [] ys' n lx ly = absurd (omega arith)
 zip_front (a ∷ xs) xs' (b ∷ ys) ys' zero lx ly = absurd (omega arith)
 zip_front {X} {Y} (a ∷ xs) xs' (b ∷ ys) ys' (suc n) lx ly = ap (λ (z : List (X × Y)). (a, b) ∷ z) (zip_front xs xs' ys ys' n (omega arith) (omega arith))
 
-abbrev pub pick : Kind → List ℕ × Kind → Option (List ℕ)
-pick kind (line, is) = if kind_is kind is then Some line else None
+abbrev pick : (Kind → Bool) → List ℕ × Kind → Option (List ℕ)
+pick is_of (line, is) = if is_of is then Some line else None
 
-abbrev pub one_of : Kind → Kind → List ℕ → List (List ℕ)
-one_of kind is line = picked kind (line ∷ []) (is ∷ [])
+abbrev one_of : (Kind → Bool) → Kind → List ℕ → List (List ℕ)
+one_of is_of is line = picked is_of (line ∷ []) (is ∷ [])
 
-pub picked_push : (kind : Kind) (front : List (List ℕ)) (kinds : List Kind) (line : List ℕ) (is : Kind) (n : ℕ) → length front ≡ n → length kinds ≡ n
-    → picked kind (front ++ line ∷ []) (kinds ++ is ∷ []) ≡ picked kind front kinds ++ one_of kind is line
-picked_push kind front kinds line is n lf lk =
-    ap (filter_map (pick kind)) (zip_push front kinds line is n lf lk) ∙ filter_map-append (pick kind) (zip front kinds) ((line, is) ∷ [])
+together : (size : ℕ) {a a' b b' l l' p p' : List (List ℕ)} → a ≡ a' → b ≡ b' → l ≡ l' → p ≡ p'
+    → ◌≡◌ {A = Parts} (record { size = size; atoms = a; bonds = b; lists = l; properties = p }) (record { size = size; atoms = a'; bonds = b'; lists = l'; properties = p' })
+together size ea eb el ep = cc
+
+parts_push : (size : ℕ) (front : List (List ℕ)) (kinds : List Kind) (line : List ℕ) (is : Kind) (n : ℕ) → length front ≡ n → length kinds ≡ n
+    → parts_of size (front ++ line ∷ []) (kinds ++ is ∷ []) ≡ with_line is line (parts_of size front kinds)
+parts_push size front kinds line is n lf lk = together size (push (kind_is atom)) (push (kind_is bond)) (push is_list) (push (kind_is property)) ∙ go is
+  where
+    push : (is_of : Kind → Bool) → picked is_of (front ++ line ∷ []) (kinds ++ is ∷ []) ≡ picked is_of front kinds ++ one_of is_of is line
+    push is_of = ap (filter_map (pick is_of)) (zip_push front kinds line is n lf lk) ∙ filter_map-append (pick is_of) (zip front kinds) ((line, is) ∷ [])
+
+    same : (is_of : Kind → Bool) → picked is_of front kinds ++ [] ≡ picked is_of front kinds
+    same is_of = append-nil (picked is_of front kinds)
+
+    pushed : Kind → Parts
+    pushed is = record {
+      size = size;
+      atoms = picked (kind_is atom) front kinds ++ one_of (kind_is atom) is line;
+      bonds = picked (kind_is bond) front kinds ++ one_of (kind_is bond) is line;
+      lists = picked is_list front kinds ++ one_of is_list is line;
+      properties = picked (kind_is property) front kinds ++ one_of (kind_is property) is line;
+    }
+
+    other : pushed header ≡ parts_of size front kinds
+    other = together size (same (kind_is atom)) (same (kind_is bond)) (same is_list) (same (kind_is property))
+
+    go : (is : Kind) → pushed is ≡ with_line is line (parts_of size front kinds)
+    go atom = together size refl (same (kind_is bond)) (same is_list) (same (kind_is property))
+    go bond = together size (same (kind_is atom)) refl (same is_list) (same (kind_is property))
+    go atom_list = together size (same (kind_is atom)) (same (kind_is bond)) refl (same (kind_is property))
+    go property = together size (same (kind_is atom)) (same (kind_is bond)) (same is_list) refl
+    go header = other
+    go counts = other
+    go passed_over = other
+    go end_mark = other
+    go after_end = other
 
 -- the line that is read next
-pub current : {lines rest atoms bonds properties : List (List ℕ)} {n : ℕ} {line : List ℕ} {left : List Kind} → IsPassed lines n (line ∷ rest) left atoms bonds properties → line_at lines n ≡ line
-current {lines} {rest} {n = n} {line = line} p = ap (λ (x : List (List ℕ)). get_or x n []) p.lines_are ∙ get_or_at p.front line rest [] n p.lines_count
+pub current : {refusals : Refusals} {lines rest : List (List ℕ)} {n : ℕ} {line : List ℕ} {left : List Kind} {parts : Parts} → IsPassed refusals lines n (line ∷ rest) left parts → line_at lines n ≡ line
+current {lines = lines} {rest = rest} {n = n} {line = line} p = ap (λ (x : List (List ℕ)). get_or x n []) p.lines_are ∙ get_or_at p.front line rest [] n p.lines_count
 
-kind_here : {lines rest atoms bonds properties : List (List ℕ)} {n : ℕ} {kind : Kind} {left : List Kind} → IsPassed lines n rest (kind ∷ left) atoms bonds properties → slice_get (kinds_of lines) n ≡ Some kind
+pub short_here : {refusals : Refusals} {lines rest : List (List ℕ)} {n : ℕ} {line : List ℕ} {left : List Kind} {parts : Parts} → IsPassed refusals lines n (line ∷ rest) left parts → length line ≤ 4096 → length (line_at lines n) ≤ 4096
+short_here p short = subst (λ (x : List ℕ). length x ≤ 4096) (sym (current p)) short
+
+-- other kinds are left, which are the same
+pub left_same : {refusals : Refusals} {lines rest : List (List ℕ)} {n : ℕ} {parts : Parts} (left other : List Kind) → left ≡ other → IsPassed refusals lines n rest left parts → IsPassed refusals lines n rest other parts
+left_same {refusals} {lines} {rest} {n} {parts} left other same p = subst (λ (x : List Kind). IsPassed refusals lines n rest x parts) same p
+
+kind_here : {refusals : Refusals} {lines rest : List (List ℕ)} {n : ℕ} {kind : Kind} {left : List Kind} {parts : Parts} → IsPassed refusals lines n rest (kind ∷ left) parts → slice_get (kinds_of lines) n ≡ Some kind
 kind_here {n = n} {kind = kind} {left = left} p = ap (λ (x : List Kind). slice_get x n) p.kinds_are ∙ at_end p.kinds kind left n p.kinds_count
 
-accepts_more : (lines : List (List ℕ)) (n : ℕ) → AcceptsLines lines n → LineRefusal lines n None → AcceptsLines lines (n + 1)
-accepts_more lines n before here i lt = go (cases_eq i n)
+accepts_more : (refusals : Refusals) (lines : List (List ℕ)) (n : ℕ) → Accepts refusals lines n → IsRefusal refusals lines n None → Accepts refusals lines (n + 1)
+accepts_more refusals lines n before here i lt = go (cases_eq i n)
   where
-    go : (i ≡ n) ⊎ (i ≡ n → ⊥) → LineRefusal lines i None
-    go (inl same) = subst (λ (k : ℕ). LineRefusal lines k None) (sym same) here
+    go : (i ≡ n) ⊎ (i ≡ n → ⊥) → IsRefusal refusals lines i None
+    go (inl same) = subst (λ (k : ℕ). IsRefusal refusals lines k None) (sym same) here
     go (inr other) = before i (omega arith)
 
 pub no_end_more : (kinds : List Kind) (kind : Kind) (n : ℕ) → length kinds ≡ n → kind_is end_mark kind ≡ false → ((i : ℕ) → slice_get kinds i ≡ Some end_mark → ⊥)
@@ -89,28 +123,24 @@ no_end_more kinds kind n long other none i is = go (cases_lt i n)
     go (inr le) = last (i - n) kind other (sym (past_end kinds (kind ∷ []) n i long le) ∙ is)
 
 -- one line more
-module _ {lines rest atoms bonds properties : List (List ℕ)} {n : ℕ} {line : List ℕ} {kind : Kind} {left : List Kind} (p : IsPassed lines n (line ∷ rest) (kind ∷ left) atoms bonds properties) where
-  pub pass : (more_atoms more_bonds more_properties : List (List ℕ)) → refusal lines n kind ≡ None → kind_is end_mark kind ≡ false
-      → atoms ++ one_of atom kind line ≡ more_atoms → bonds ++ one_of bond kind line ≡ more_bonds → properties ++ one_of property kind line ≡ more_properties
-      → IsPassed lines (n + 1) rest left more_atoms more_bonds more_properties
-  pass more_atoms more_bonds more_properties accepted other ea eb ep = record {
+module _ {refusals : Refusals} {lines rest : List (List ℕ)} {n : ℕ} {line : List ℕ} {kind : Kind} {left : List Kind} {parts : Parts} (p : IsPassed refusals lines n (line ∷ rest) (kind ∷ left) parts) where
+  pub pass : bounded refusals lines n kind ≡ None → kind_is end_mark kind ≡ false → IsPassed refusals lines (n + 1) rest left (with_line kind line parts)
+  pass accepted other = record {
     front = p.front ++ line ∷ [];
     kinds = p.kinds ++ kind ∷ [];
     lines_are = p.lines_are ∙ sym (append_assoc p.front (line ∷ []) rest);
     kinds_are = p.kinds_are ∙ sym (append_assoc p.kinds (kind ∷ []) left);
     lines_count = length_push p.front line ∙ ap (λ (k : ℕ). k + 1) p.lines_count;
     kinds_count = length_push p.kinds kind ∙ ap (λ (k : ℕ). k + 1) p.kinds_count;
-    accepted = accepts_more lines n p.accepted (kind, kind_here p, accepted);
+    accepted = accepts_more refusals lines n p.accepted (kind, kind_here p, accepted);
     no_end = no_end_more p.kinds kind n p.kinds_count other p.no_end;
-    atoms_are = picked_push atom p.front p.kinds line kind n p.lines_count p.kinds_count ∙ ap (λ (x : List (List ℕ)). x ++ one_of atom kind line) p.atoms_are ∙ ea;
-    bonds_are = picked_push bond p.front p.kinds line kind n p.lines_count p.kinds_count ∙ ap (λ (x : List (List ℕ)). x ++ one_of bond kind line) p.bonds_are ∙ eb;
-    properties_are = picked_push property p.front p.kinds line kind n p.lines_count p.kinds_count ∙ ap (λ (x : List (List ℕ)). x ++ one_of property kind line) p.properties_are ∙ ep;
+    parts_are = parts_push (atom_count lines) p.front p.kinds line kind n p.lines_count p.kinds_count ∙ ap (with_line kind line) p.parts_are;
   }
 
-  pub stops : {code : ℕ} → refusal lines n kind ≡ Some code → IsStop lines n code
+  pub stops : {code : ℕ} → bounded refusals lines n kind ≡ Some code → IsStop refusals lines n code
   stops refused = record {
     within = omega (arith, ap length p.lines_are, length-append p.front (line ∷ rest), p.lines_count);
-    why = inl (record { before = p.accepted; here = (kind, kind_here p, refused) });
+    why = inl (p.accepted, (kind, kind_here p, refused));
   }
 
 -- a line of 4096 bytes or less, and a longer one
@@ -121,18 +151,18 @@ pub too_long : (line : List ℕ) (code : Option ℕ) → 4096 < length line → 
 too_long line code long = cond-true (ltb 4096 (length line)) (Some 13) code (lt-ltb 4096 (length line) long)
 
 -- no line is left
-pub runs_out : {lines atoms bonds properties : List (List ℕ)} {n : ℕ} → IsPassed lines n [] [] atoms bonds properties → IsStop lines n 12
-runs_out {lines} {n = n} p =
+pub runs_out : {refusals : Refusals} {lines : List (List ℕ)} {n : ℕ} {parts : Parts} → IsPassed refusals lines n [] [] parts → IsStop refusals lines n 12
+runs_out {refusals} {lines} {n} p =
     let all : lines ≡ p.front = p.lines_are ∙ append-nil p.front in
     let size : n ≡ length lines = sym p.lines_count ∙ sym (ap length all) in
     record {
       within = omega arith;
-      why = inr (record {
-        passes = subst (AcceptsLines lines) size p.accepted;
-        none = λ ends. p.no_end ends.0 (ap (λ (x : List Kind). slice_get x ends.0) (sym (p.kinds_are ∙ append-nil p.kinds)) ∙ ends.1);
-        at = size;
-        code_is = refl;
-      });
+      why = inr (
+        subst (Accepts refusals lines) size p.accepted,
+        λ ends. p.no_end ends.0 (ap (λ (x : List Kind). slice_get x ends.0) (sym (p.kinds_are ∙ append-nil p.kinds)) ∙ ends.1),
+        size,
+        refl,
+      );
     }
 
 pub after_ends : {X : Type 0} (rest : List X) (i : ℕ) → i < length rest → slice_get (map (λ _. after_end) rest) i ≡ Some after_end
@@ -140,25 +170,25 @@ after_ends [] i lt = absurd (omega arith)
 after_ends (x ∷ rest) zero lt = refl
 after_ends (x ∷ rest) (suc i) lt = after_ends rest i (omega arith)
 
-pub none_after : (kind : Kind) → kind_is kind after_end ≡ false → (rest : List (List ℕ)) → picked kind rest (map (λ _. after_end) rest) ≡ []
-none_after kind other [] = refl
-none_after kind other (line ∷ rest) = rw other (none_after kind other rest)
+none_after : (is_of : Kind → Bool) → is_of after_end ≡ false → (rest : List (List ℕ)) → picked is_of rest (map (λ _. after_end) rest) ≡ []
+none_after is_of other [] = refl
+none_after is_of other (line ∷ rest) = rw other (none_after is_of other rest)
 
 -- the end mark
-module _ {lines rest atoms bonds properties : List (List ℕ)} {n : ℕ} {line : List ℕ} (p : IsPassed lines n (line ∷ rest) (end_mark ∷ map (λ _. after_end) rest) atoms bonds properties) where
-  kind_all : (kind : Kind) → kind_is kind after_end ≡ false → kind_is kind end_mark ≡ false → lines_of_kind kind lines ≡ picked kind p.front p.kinds
-  kind_all kind other differs =
-      let behind : picked kind (line ∷ rest) (end_mark ∷ map (λ _. after_end) rest) ≡ [] = rw differs (none_after kind other rest) in
-      ap (λ (x : List (List ℕ)). picked kind x (kinds_of lines)) p.lines_are
-      ∙ ap (λ (x : List Kind). picked kind (p.front ++ line ∷ rest) x) p.kinds_are
-      ∙ ap (filter_map (pick kind)) (zip_front p.front (line ∷ rest) p.kinds (end_mark ∷ map (λ _. after_end) rest) n p.lines_count p.kinds_count)
-      ∙ filter_map-append (pick kind) (zip p.front p.kinds) (zip (line ∷ rest) (end_mark ∷ map (λ _. after_end) rest))
-      ∙ ap (λ (x : List (List ℕ)). picked kind p.front p.kinds ++ x) behind ∙ append-nil (picked kind p.front p.kinds)
+module _ {refusals : Refusals} {lines rest : List (List ℕ)} {n : ℕ} {line : List ℕ} {parts : Parts} (p : IsPassed refusals lines n (line ∷ rest) (end_mark ∷ map (λ _. after_end) rest) parts) where
+  kind_all : (is_of : Kind → Bool) → is_of after_end ≡ false → is_of end_mark ≡ false → picked is_of lines (kinds_of lines) ≡ picked is_of p.front p.kinds
+  kind_all is_of other differs =
+      let behind : picked is_of (line ∷ rest) (end_mark ∷ map (λ _. after_end) rest) ≡ [] = rw differs (none_after is_of other rest) in
+      ap (λ (x : List (List ℕ)). picked is_of x (kinds_of lines)) p.lines_are
+      ∙ ap (λ (x : List Kind). picked is_of (p.front ++ line ∷ rest) x) p.kinds_are
+      ∙ ap (filter_map (pick is_of)) (zip_front p.front (line ∷ rest) p.kinds (end_mark ∷ map (λ _. after_end) rest) n p.lines_count p.kinds_count)
+      ∙ filter_map-append (pick is_of) (zip p.front p.kinds) (zip (line ∷ rest) (end_mark ∷ map (λ _. after_end) rest))
+      ∙ ap (λ (x : List (List ℕ)). picked is_of p.front p.kinds ++ x) behind ∙ append-nil (picked is_of p.front p.kinds)
 
   size : length lines ≡ n + suc (length rest)
   size = ap length p.lines_are ∙ length-append p.front (line ∷ rest) ∙ ap (λ (k : ℕ). k + suc (length rest)) p.lines_count
 
-  after : (i : ℕ) → n < i → i < length lines → LineRefusal lines i None
+  after : (i : ℕ) → n < i → i < length lines → IsRefusal refusals lines i None
   after i lt within =
       let k : i - n ≡ suc (i - n - 1) = omega arith in (
         after_end,
@@ -167,18 +197,13 @@ module _ {lines rest atoms bonds properties : List (List ℕ)} {n : ℕ} {line :
         refl,
       )
 
-  each : LineRefusal lines n None → (i : ℕ) → i < length lines → (i < n) ⊎ (n ≤ i) → (i ≡ n) ⊎ (i ≡ n → ⊥) → LineRefusal lines i None
+  each : IsRefusal refusals lines n None → (i : ℕ) → i < length lines → (i < n) ⊎ (n ≤ i) → (i ≡ n) ⊎ (i ≡ n → ⊥) → IsRefusal refusals lines i None
   each here i within (inl lt) same = p.accepted i lt
-  each here i within (inr le) (inl same) = subst (λ (k : ℕ). LineRefusal lines k None) (sym same) here
+  each here i within (inr le) (inl same) = subst (λ (k : ℕ). IsRefusal refusals lines k None) (sym same) here
   each here i within (inr le) (inr other) = after i (omega arith) within
 
-  pub whole : length line ≤ 4096 → IsWhole lines atoms bonds properties
-  whole short =
-      let here : LineRefusal lines n None = (end_mark, kind_here p, fits (line_at lines n) None (subst (λ (x : List ℕ). length x ≤ 4096) (sym (current p)) short)) in
-      record {
-        passes = λ i within. each here i within (cases_lt i n) (cases_eq i n);
-        ends = (n, kind_here p);
-        atoms_are = kind_all atom refl refl ∙ p.atoms_are;
-        bonds_are = kind_all bond refl refl ∙ p.bonds_are;
-        properties_are = kind_all property refl refl ∙ p.properties_are;
-      }
+  pub all_parts : parts_of (atom_count lines) lines (kinds_of lines) ≡ parts
+  all_parts = together (atom_count lines) (kind_all (kind_is atom) refl refl) (kind_all (kind_is bond) refl refl) (kind_all is_list refl refl) (kind_all (kind_is property) refl refl) ∙ p.parts_are
+
+  pub whole : bounded refusals lines n end_mark ≡ None → Accepts refusals lines (length lines) × HasEnd lines
+  whole accepted = (λ i within. each (end_mark, kind_here p, accepted) i within (cases_lt i n) (cases_eq i n), (n, kind_here p))

@@ -3,8 +3,8 @@ pub mod Fields
 pub mod SectionLines
 pub mod SectionRecord
 pub mod Walk
+pub mod Records
 pub mod AtomLines
 pub mod BondLines
 pub mod PropertyLines
-pub mod Stops
 pub mod Names

@@ -1,13 +1,11 @@
 -- What a property line does to the atoms.
-use Rattle.std.specs.Prelude.{◌≡◌, nat_le, ℕ, ◌-◌, ℤ, pos, List, [], ◌∷◌, length, map, fold, Option, None, Some}
-use Rattle.std.specs.Prelude.{option_and_then, unwrap_or, Bool, true, false, not, ◌||◌, ◌&&◌, slice_set, slice_index_or}
+use Rattle.std.specs.Prelude.{nat_le, ℕ, ◌-◌, ℤ, pos, List, [], ◌∷◌, length, map, fold, Option, None, Some}
+use Rattle.std.specs.Prelude.{option_and_then, unwrap_or, Bool, ◌||◌, slice_set, slice_index_or}
 use Rattle.std.specs.Prelude.{if◌then◌else◌}
 use lib.Chars.{codes}
 use Rattle.htss_defs.specs.declared.mol.Atom.{Atom}
-use Rattle.mol_section.specs.declared.properties.Step.{Step}
-use Rattle.mol_section.specs.declared.properties.Step.TheVariants.{End, Refused, Next}
 use Rattle.mol_section.specs.Fields.{begins, number_of}
-use Rattle.mol_section.specs.SectionLines.{is_place, passes_next, property_refusal, line_entries, listed_charge}
+use Rattle.mol_section.specs.SectionLines.{is_place, line_entries, listed_charge}
 use Rattle.mol_section.specs.SectionLines.{listed_mass, lists_charges, lists_masses}
 
 -- the number of entries, and the words after it
@@ -69,27 +67,3 @@ put_masses line atoms =
 -- the atoms after a property line
 abbrev pub with_property : Bool → List ℕ → List Atom → List Atom
 with_property aside line atoms = put_masses line (put_charges line (set_aside aside line atoms))
-
--- ---- a line after the blocks, where `passing` says that it is passed over
-
-unfoldable pub is_end : Bool → List ℕ → Bool
-is_end passing line = not passing && begins line (codes "M  END")
-
-unfoldable pub step_refusal : ℕ → Bool → List ℕ → Option ℕ
-step_refusal size passing line = if passing || passes_next line then None else property_refusal size line
-
--- whether the next line is passed over, whether charges are set aside, and the atoms
-unfoldable pub next_state : Bool → List ℕ → Bool → List Atom → Bool × Bool × List Atom
-next_state passing line aside atoms =
-    if passing then (false, aside, atoms)
-    else (if passes_next line then (true, aside, atoms)
-    else (false, aside || sets_aside line, with_property aside line atoms))
-
--- what the line does
-abbrev pub IsStep : Bool → List ℕ → Bool → List Atom → List Atom → Step → Type 0
-IsStep passing line aside atoms now End = (is_end passing line ≡ true) × (now ≡ atoms)
-IsStep passing line aside atoms now Refused = (is_end passing line ≡ false)
-    × (step_refusal (length atoms) passing line ≡ Some 11)
-IsStep passing line aside atoms now (Next passing_next aside_now) =
-    (is_end passing line ≡ false) × (step_refusal (length atoms) passing line ≡ None)
-    × (next_state passing line aside atoms ≡ (passing_next, aside_now, now))

@@ -3,11 +3,11 @@ ghost use Rattle.std.specs.Prelude.{◌≡◌, ℕ, ◌≤◌, ◌≤ℤ◌, pos
 ghost use Rattle.std.specs.Prelude.{Some, None, is_some, All, length, map, fold, IfSome, IfNone};
 ghost use Rattle.std.specs.Option.{option_map};
 ghost use Rattle.mol_section.specs.Fields.{words_of};
-ghost use Rattle.mol_section.specs.SectionLines.{passes_next, property_refusal, line_entries};
+ghost use Rattle.mol_section.specs.SectionLines.{property_refusal, line_entries};
 ghost use Rattle.mol_section.specs.SectionLines.{listed_charge, listed_mass, listed_entries};
 ghost use Rattle.mol_section.specs.SectionLines.{lists_charges, lists_masses};
 ghost use Rattle.mol_section.specs.AtomLines.{IsAtomFrom};
-ghost use Rattle.mol_section.specs.PropertyLines.{IsStep, count_at, place_at, entry_at};
+ghost use Rattle.mol_section.specs.PropertyLines.{count_at, place_at, entry_at};
 ghost use Rattle.mol_section.specs.PropertyLines.{put_charge, put_mass, no_charge, sets_aside};
 ghost use Rattle.mol_section.specs.PropertyLines.{set_aside, put_charges, put_masses, with_property};
 
@@ -15,56 +15,9 @@ use crate::bonds::is_place;
 use crate::fields::{next_word, number_of, signed_of};
 use htss_defs::Atom;
 
-/// What a line after the blocks does: it ends them, it is refused, or the reader goes on.
-#[derive(Clone, Copy)]
-pub enum Step {
-    End,
-    Refused,
-    Next { passing: bool, aside: bool },
-}
-
-/// Takes a line after the blocks, where `passing` says that it is passed over and `aside` that the
-/// charges of the atom block are set aside.
-#[tactic(auto, unfolding(crate::specs::PropertyLines::is_end, crate::specs::PropertyLines::step_refusal, crate::specs::PropertyLines::next_state))]
-pub fn take_line(line: &[u8], passing: bool, aside: bool, atoms: &mut [Atom]) -> Step
-    requires few { length atoms.old ≤ 999 }
-    ensures step { IsStep passing line.now aside atoms.old atoms.new result }
-    ensures valid { (least : ℕ) → All (IsAtomFrom least) atoms.old → All (IsAtomFrom least) atoms.new }
-{
-    if passing {
-        return Step::Next {
-            passing: false,
-            aside,
-        };
-    }
-    if line.starts_with(b"M  END") {
-        return Step::End;
-    }
-    if passes_next(line) {
-        return Step::Next {
-            passing: true,
-            aside,
-        };
-    }
-    match take_property(line, atoms, aside) {
-        None => Step::Refused,
-        Some(now) => Step::Next {
-            passing: false,
-            aside: now,
-        },
-    }
-}
-
-// Whether the line after this one is passed over.
-fn passes_next(line: &[u8]) -> bool
-    ensures { result ≡ passes_next line.now }
-{
-    line.starts_with(b"A  ") || line.starts_with(b"G  ")
-}
-
-// Changes the atoms as a property line says, and answers whether the charges of the atom block are
-// set aside. `None`: the line is refused.
-fn take_property(line: &[u8], atoms: &mut [Atom], aside: bool) -> Option<bool>
+/// Changes the atoms as a property line says, and answers whether the charges of the atom block are
+/// set aside, as they may be before. `None`: the line is refused.
+pub fn take_property(line: &[u8], atoms: &mut [Atom], aside: bool) -> Option<bool>
     requires few { length atoms.old ≤ 999 }
     ensures refused { IfNone result (property_refusal (length atoms.old) line.now ≡ Some 11) }
     ensures accepted { IfSome result (λ _. property_refusal (length atoms.old) line.now ≡ None) }

@@ -5,16 +5,14 @@ ghost use Rattle.htss_defs.specs.Molecule.{IsMolecule, molecule_graph};
 ghost use Rattle.htss_defs.specs.Marked.{IsMarked, unmarked};
 ghost use Rattle.mol_section.specs.Lines.{lines_of};
 ghost use Rattle.mol_section.specs.SectionRecord.{IsOutcome, outcome_of, name_of};
-ghost use Rattle.mol_section.specs.Walk.{IsRead, IsGraphOf};
-ghost use Rattle.mol_section.specs.Stops.{IsStopOf};
 ghost use Rattle.mol_section.specs.Names.{visible};
 
 use crate::SectionOutcome;
-use crate::blocks::{
-    Draft, Stop, read_atoms, read_bonds, read_counts, read_properties, skip_lists,
-};
+use crate::blocks::read_draft;
+use crate::draft::Stop;
 use crate::fields::trim;
 use crate::lines::next_line;
+use crate::record::Record;
 use arrayvec::ArrayVec;
 use htss_defs::{Adjacency, Atom, Bond, Mol, Name, OutOfMemory};
 use ring_bonds::RingMarker;
@@ -44,7 +42,7 @@ pub fn read_section_with(
     requires { first + length bytes.now < 2 ^ 64 }
     ensures { IfOk result (λ outcome. IsOutcome first (lines_of bytes.now) (outcome_of outcome)) }
 {
-    match read_draft(alloc, bytes, graph) {
+    match read_draft::<Record>(alloc, bytes, graph) {
         Err(Stop::Memory) => Err(OutOfMemory),
         Err(Stop::Refused { line, code }) => Ok(SectionOutcome::Refused {
             line: first + line,
@@ -69,24 +67,6 @@ fn marked(atoms: Vec<Atom>, bonds: Vec<Bond>, graph: &Adjacency, marker: &mut Ri
     let mut mol = Mol::of_valid(atoms, bonds);
     marker.mark(&mut mol, graph);
     mol
-}
-
-// Reads all blocks up to the end mark. The graph becomes that of the bonds, whatever it was.
-fn read_draft<'a>(alloc: Global, bytes: &'a [u8], graph: &mut Adjacency) -> Result<Draft<'a>, Stop>
-    ensures read { IfOk result (λ d.
-        IsRead (lines_of bytes.now) d.sizes d.atoms.items d.bonds.items) }
-    ensures graph { IfOk result (λ d.
-        IsGraphOf graph.new d.sizes.atoms d.bonds.items) }
-    ensures some { IfOk result (λ d. 1 ≤ d.sizes.atoms) }
-    ensures few { IfOk result (λ d. d.sizes.atoms ≤ 999) }
-    ensures few_bonds { IfOk result (λ d. d.sizes.bonds ≤ 999) }
-    ensures stop { IfErr result (λ stop. IsStopOf (lines_of bytes.now) stop) }
-{
-    let draft = read_counts(alloc, bytes)?;
-    let draft = read_atoms(bytes, draft)?;
-    let draft = read_bonds(bytes, draft, graph)?;
-    let draft = skip_lists(bytes, draft)?;
-    read_properties(bytes, draft)
 }
 
 // The first line.

@@ -1,9 +1,9 @@
 -- The atoms and the bonds that were read, as a query.
-use Rattle.std.proofs.Common.{◌≡◌, ◌⊎◌, ℕ, ◌≤◌, Bool, true, false, List, [], ◌∷◌, ◌++◌, length, map, All, refl, sym, ap, subst, ◌∙◌, inl, inr, arith}
+use Rattle.std.proofs.Common.{◌≡◌, ◌⊎◌, ℕ, ◌+◌, Bool, true, false, List, [], ◌∷◌, ◌++◌, length, map, All, refl, sym, ap, subst, ◌∙◌, inl, inr, arith}
 use Rattle.std.specs.Prelude.{Option, Some, None, IfSome, is_some, ◌&&◌, if◌then◌else◌}
 use Rattle.std.specs.List.{zip, range_with_len, filter_map, list_all}
 use Rattle.std.specs.Str.{bytes_eq}
-use Rattle.std.proofs.lemmas.List.{append-nil}
+use Rattle.std.proofs.lemmas.List.{append-nil, length-map}
 use Rattle.std.proofs.lemmas.List.Elements.{All-nil, All-cons, All-head, All-tail}
 use Rattle.std.proofs.lemmas.Option.{same_Some}
 use lib.Chars.{codes}
@@ -12,19 +12,20 @@ use Rattle.htss_defs.specs.declared.query.AtomTest.{AtomTest}
 use Rattle.htss_defs.specs.declared.query.QueryAtom.{QueryAtom}
 use Rattle.htss_defs.specs.declared.query.QueryBond.{QueryBond}
 use Rattle.mol_section.specs.AtomLines.{IsAtomFrom}
+use Rattle.htss_defs.specs.Graph.{Graph}
 use Rattle.htss_defs.specs.QueryGraph.{QueryGraph, IsAtomTest, IsQueryAtom, IsQueryBond, IsQuery}
 use Rattle.htss_defs.specs.Marked.{IsMarkedQuery, unmarked_query, unmarked_query_bond}
-use Rattle.mol_section.specs.declared.counts.Counts.{Counts}
 use Rattle.mol_section.specs.Fields.{field}
-use Rattle.mol_section.specs.SectionLines.{atom, bond, property, atom_count}
-use Rattle.mol_section.specs.SectionRecord.{lines_of_kind, atom_of}
-use Rattle.mol_section.specs.Walk.{made_atoms}
+use Rattle.mol_section.specs.SectionRecord.{atom_of}
+use Rattle.mol_section.specs.Walk.{Parts, IsStop, IsRead}
+use Rattle.mol_section.specs.Records.{made_atoms}
 use Rattle.query_mol.specs.QueryLines.{AtomList}
-use Rattle.query_mol.specs.QueryRecord.{IsAcceptedQuery, query_of, query_bond_of, list_lines, test_of, list_test, symbol_test}
+use Rattle.query_mol.specs.QueryRecord.{IsAcceptedQuery, IsRefusedQuery, query_kind_refusal, query_of, query_bond_of, test_of, list_test, symbol_test}
 use Rattle.query_mol.specs.LineFacts.{told_symbol}
 use Rattle.query_mol.specs.Tests.{told_test, told_tests, list_at}
 use Rattle.query_mol.specs.QueryAtoms.{told_atom, told_atoms}
-use Rattle.query_mol.specs.QueryWalk.{IsQueryRead}
+use Rattle.query_mol.specs.QueryKept.{KeepsQuery}
+use Rattle.query_mol.proofs.Drafts.{end_code, size_atoms, size_tests}
 
 -- ---- what was read is a query
 
@@ -46,18 +47,6 @@ valid_told (a ∷ atoms) (Some t ∷ tests) valid told =
     All-cons IsQueryAtom (record { test = t; charge = a.charge; mass = a.mass }) (told_atoms atoms tests)
     (record { test = All-head IsTold (Some t) tests told; charge = one.charge; mass = one.mass })
     (valid_told atoms tests (All-tail (IsAtomFrom 0) a atoms valid) (All-tail IsTold (Some t) tests told))
-
-pub IsQuery-read : (lines : List (List ℕ)) (sizes : Counts) (atoms : List Atom) (tests : List (Option AtomTest)) (bonds : List QueryBond) → 1 ≤ sizes.atoms → sizes.atoms ≤ 64 → sizes.bonds ≤ 999
-    → IsQueryRead lines sizes atoms tests bonds → IsQuery (record { atoms = told_atoms atoms tests; bonds = bonds })
-IsQuery-read lines sizes atoms tests bonds some few few_bonds r =
-    let long : length (told_atoms atoms tests) ≡ sizes.atoms = long_told atoms tests r.told (r.all_tests ∙ sym r.all_atoms) ∙ r.all_atoms in
-    record {
-      atoms = (omega arith, omega arith);
-      bonds = omega (arith, r.all_bonds);
-      each_atom = valid_told atoms tests r.valid_atoms r.valid_tests;
-      each_bond = subst (λ (k : ℕ). All (IsQueryBond k) bonds) (sym long) r.valid_bonds;
-      no_pair_twice = r.apart;
-    }
 
 -- ---- it is the query of the lines
 
@@ -101,9 +90,6 @@ query_by size lists properties atom_lines bond_lines = record {
   bonds = map query_bond_of bond_lines;
 }
 
-by_lines : (lines : List (List ℕ)) → query_of lines ≡ query_by (atom_count lines) (list_lines lines) (lines_of_kind property lines) (lines_of_kind atom lines) (lines_of_kind bond lines)
-by_lines lines = refl
-
 atoms_by : (size : ℕ) (lists properties atom_lines : List (List ℕ)) → list_all (λ t. is_some t) (told_tests size lists properties atom_lines) ≡ true
     → told_atoms (made_atoms size properties atom_lines) (told_tests size lists properties atom_lines) ≡ map (atom_by size lists properties) (zip (range_with_len 1 (length atom_lines)) atom_lines)
 atoms_by size lists properties atom_lines told =
@@ -114,22 +100,6 @@ atoms_by size lists properties atom_lines told =
 no_flags : (lines : List (List ℕ)) → map unmarked_query_bond (map query_bond_of lines) ≡ map query_bond_of lines
 no_flags [] = refl
 no_flags (line ∷ lines) = ap (λ (x : List QueryBond). query_bond_of line ∷ x) (no_flags lines)
-
-pub query_of-read : (lines : List (List ℕ)) (sizes : Counts) (atoms : List Atom) (tests : List (Option AtomTest)) (bonds : List QueryBond)
-    → IsQueryRead lines sizes atoms tests bonds → unmarked_query (record { atoms = told_atoms atoms tests; bonds = bonds }) ≡ query_of lines
-query_of-read lines sizes atoms tests bonds r =
-    let told : list_all (λ t. is_some t) (told_tests sizes.atoms r.lists r.properties r.atom_lines) ≡ true = ap (list_all (λ t. is_some t)) (sym r.tests_are) ∙ r.told in
-    let atoms_are : told_atoms atoms tests ≡ map (atom_by sizes.atoms r.lists r.properties) (zip (range_with_len 1 (length r.atom_lines)) r.atom_lines) =
-    ap (λ (a : List Atom). told_atoms a tests) r.atoms_are ∙ ap (told_atoms (made_atoms sizes.atoms r.properties r.atom_lines)) r.tests_are ∙ atoms_by sizes.atoms r.lists r.properties r.atom_lines told in
-    let bonds_are : map unmarked_query_bond bonds ≡ map query_bond_of r.bond_lines = ap (map unmarked_query_bond) r.bonds_are ∙ no_flags r.bond_lines in
-    ap (λ (a : List QueryAtom). record { atoms = a; bonds = map unmarked_query_bond bonds }) atoms_are
-    ∙ ap (λ (b : List QueryBond). record { atoms = map (atom_by sizes.atoms r.lists r.properties) (zip (range_with_len 1 (length r.atom_lines)) r.atom_lines); bonds = b }) bonds_are
-    ∙ sym (by_lines lines
-    ∙ ap (λ (k : ℕ). query_by k (list_lines lines) (lines_of_kind property lines) (lines_of_kind atom lines) (lines_of_kind bond lines)) r.size_is
-    ∙ ap (λ (x : List (List ℕ)). query_by sizes.atoms x (lines_of_kind property lines) (lines_of_kind atom lines) (lines_of_kind bond lines)) r.are.lists_are
-    ∙ ap (λ (x : List (List ℕ)). query_by sizes.atoms r.lists x (lines_of_kind atom lines) (lines_of_kind bond lines)) r.are.properties_are
-    ∙ ap (λ (x : List (List ℕ)). query_by sizes.atoms r.lists r.properties x (lines_of_kind bond lines)) r.are.atoms_are
-    ∙ ap (query_by sizes.atoms r.lists r.properties r.atom_lines) r.are.bonds_are)
 
 -- ---- the atoms are told one after the other
 
@@ -142,12 +112,55 @@ last_told told all (a ∷ atoms) (t ∷ tests) (inr end) so_far = absurd (omega 
 
 -- ---- the whole
 
-pub IsAcceptedQuery-read : (lines : List (List ℕ)) (sizes : Counts) (atoms : List Atom) (tests : List (Option AtomTest)) (bonds : List QueryBond) (told : List QueryAtom) (query : QueryGraph)
-    → IsQueryRead lines sizes atoms tests bonds → told ≡ told_atoms atoms tests → unmarked_query query ≡ unmarked_query (record { atoms = told; bonds = bonds }) → IsMarkedQuery query
-    → IsAcceptedQuery lines query
-IsAcceptedQuery-read lines sizes atoms tests bonds told query r told_is same marked = record {
-  passes = r.passes;
-  ends = r.ends;
-  query_is = same ∙ ap (λ (a : List QueryAtom). unmarked_query (record { atoms = a; bonds = bonds })) told_is ∙ query_of-read lines sizes atoms tests bonds r;
-  marked = marked;
-}
+module _ {lines : List (List ℕ)} {graph : Graph} {atoms : List Atom} {tests : List (Option AtomTest)} {bonds : List QueryBond} {aside : Bool} (read : IsRead query_kind_refusal lines graph (KeepsQuery atoms tests bonds aside)) where
+  told_all : list_all (λ t. is_some t) tests ≡ true
+  told_all = go (list_all (λ t. is_some t) tests) (sym (end_code lines read.kept read.are read.end_passes.0 (list_all (λ t. is_some t) tests) refl) ∙ read.end_passes.1)
+    where
+      go : (b : Bool) → ◌≡◌ {A = Option ℕ} (if b then None else Some 21) None → b ≡ true
+      go true e = refl
+      go false e = absurd cc
+
+  pub is_query : IsQuery (record { atoms = told_atoms atoms tests; bonds = bonds })
+  is_query =
+      let size : length atoms ≡ read.parts.size = size_atoms read.kept read.counted.all_atoms in
+      let long : length (told_atoms atoms tests) ≡ read.parts.size = long_told atoms tests told_all (size_tests read.kept read.counted.all_atoms ∙ sym size) ∙ size in
+      record {
+        atoms = (omega (arith, long, read.counted.some), omega (arith, long, read.kept.few));
+        bonds = omega (arith, ap length read.kept.bonds_are, length-map read.parts.bonds query_bond_of, read.counted.few_bonds);
+        each_atom = valid_told atoms tests read.kept.valid_atoms read.kept.valid_tests;
+        each_bond = subst (λ (k : ℕ). All (IsQueryBond k) bonds) (sym long) read.kept.valid_bonds;
+        no_pair_twice = read.kept.apart;
+      }
+
+  abbrev built : Parts → QueryGraph
+  built parts = query_by parts.size parts.lists parts.properties parts.atoms parts.bonds
+
+  query_is : unmarked_query (record { atoms = told_atoms atoms tests; bonds = bonds }) ≡ query_of lines
+  query_is =
+      let p = read.parts in
+      let told : list_all (λ t. is_some t) (told_tests read.parts.size read.parts.lists read.parts.properties read.parts.atoms) ≡ true = ap (list_all (λ t. is_some t)) (sym read.kept.tests_are) ∙ told_all in
+      let atoms_are : told_atoms atoms tests ≡ map (atom_by read.parts.size read.parts.lists read.parts.properties) (zip (range_with_len 1 (length read.parts.atoms)) read.parts.atoms) =
+      ap (λ (a : List Atom). told_atoms a tests) read.kept.atoms_are ∙ ap (told_atoms (made_atoms read.parts.size read.parts.properties read.parts.atoms)) read.kept.tests_are
+      ∙ atoms_by read.parts.size read.parts.lists read.parts.properties read.parts.atoms told in
+      let bonds_are : map unmarked_query_bond bonds ≡ map query_bond_of read.parts.bonds = ap (map unmarked_query_bond) read.kept.bonds_are ∙ no_flags read.parts.bonds in
+      ap (λ (a : List QueryAtom). record { atoms = a; bonds = map unmarked_query_bond bonds }) atoms_are
+      ∙ ap (λ (b : List QueryBond). record { atoms = map (atom_by read.parts.size read.parts.lists read.parts.properties) (zip (range_with_len 1 (length read.parts.atoms)) read.parts.atoms); bonds = b }) bonds_are
+      ∙ sym (ap built read.are)
+
+  pub is_accepted : (told : List QueryAtom) (query : QueryGraph) → told ≡ told_atoms atoms tests → unmarked_query query ≡ unmarked_query (record { atoms = told; bonds = bonds }) → IsMarkedQuery query → IsAcceptedQuery lines query
+  is_accepted told query told_is same marked = record {
+    passes = read.passes;
+    ends = read.ends;
+    query_is = same ∙ ap (λ (a : List QueryAtom). unmarked_query (record { atoms = a; bonds = bonds })) told_is ∙ query_is;
+    marked = marked;
+  }
+
+pub is_refused : (lines : List (List ℕ)) (line code : ℕ) → IsStop query_kind_refusal lines line code → IsRefusedQuery lines (line + 1) code
+is_refused lines line code stop = (
+  line,
+  refl,
+  elim stop.why [
+    | inl at ↦ inl (record { before = at.0; here = at.1 })
+    | inr ends ↦ inr (record { passes = ends.0; none = ends.1; at = ends.2; code_is = ends.3 })
+  ],
+)

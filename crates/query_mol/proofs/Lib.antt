@@ -1,9 +1,5 @@
 pub mod Examples
 pub mod ListSets
-pub mod QueryPassing
-pub mod Steps
-pub mod QueryBlocks
-pub mod QueryBonds
 pub mod Told
-pub mod QueryEnds
+pub mod Drafts
 pub mod Joined

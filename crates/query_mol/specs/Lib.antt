@@ -3,7 +3,6 @@ pub mod QueryRecord
 pub mod ListWords
 pub mod LineFacts
 pub mod Tests
-pub mod QueryWalk
-pub mod QueryStops
+pub mod QueryKept
 pub mod QueryAtoms
 pub mod QueryOutcome

@@ -1,17 +1,12 @@
 -- The tests of the atoms as the reader keeps them: none where an atom L waits for its list.
-use Rattle.std.specs.Prelude.{◌≡◌, ℕ, ◌-◌, List, length, map, Option, None, Some, Bool, true, false, ◌||◌, slice_set}
+use Rattle.std.specs.Prelude.{ℕ, ◌-◌, List, length, map, Option, None, Some, slice_set}
 use Rattle.std.specs.Prelude.{if◌then◌else◌}
 use Rattle.std.specs.List.{zip, range_with_len, filter_map}
-use Rattle.htss_defs.specs.declared.mol.Atom.{Atom}
 use Rattle.htss_defs.specs.declared.query.AtomTest.{AtomTest}
 use Rattle.htss_defs.specs.declared.query.AtomTest.TheVariants.{OneOf, NoneOf}
 use Rattle.mol_section.specs.Fields.{field}
-use Rattle.mol_section.specs.SectionLines.{passes_next}
-use Rattle.mol_section.specs.PropertyLines.{is_end, next_state}
 use Rattle.query_mol.specs.declared.lists.Listed.{Listed}
-use Rattle.query_mol.specs.declared.properties.QueryStep.{QueryStep}
-use Rattle.query_mol.specs.declared.properties.QueryStep.TheVariants.{End, Refused, Next}
-use Rattle.query_mol.specs.QueryLines.{AtomList, old_list_of, new_list_of, is_new_list, query_property_refusal}
+use Rattle.query_mol.specs.QueryLines.{AtomList, old_list_of, new_list_of, is_new_list}
 use Rattle.query_mol.specs.QueryRecord.{last_list, list_test}
 use Rattle.query_mol.specs.LineFacts.{told_symbol}
 
@@ -45,22 +40,3 @@ abbrev pub told_tests : ℕ → List (List ℕ) → List (List ℕ) → List (Li
 told_tests size lists properties lines =
     map (λ (place, line). told_test (list_at size lists properties place) (field 32 34 line))
     (zip (range_with_len 1 (length lines)) lines)
-
--- ---- a line after the blocks, where `passing` says that it is passed over
-
-unfoldable pub query_step_refusal : ℕ → Bool → List ℕ → Option ℕ
-query_step_refusal size passing line = if passing || passes_next line then None else query_property_refusal size line
-
-unfoldable pub next_tests : ℕ → Bool → List ℕ → List (Option AtomTest) → List (Option AtomTest)
-next_tests size passing line tests = if passing || passes_next line then tests else with_new_list size line tests
-
--- what the line does
-abbrev pub IsQueryStep : Bool → List ℕ → Bool → List Atom → List (Option AtomTest) → List Atom → List (Option AtomTest)
-    → QueryStep → Type 0
-IsQueryStep passing line aside atoms tests now told End = (is_end passing line ≡ true) × (now ≡ atoms) × (told ≡ tests)
-IsQueryStep passing line aside atoms tests now told (Refused code) =
-    (is_end passing line ≡ false) × (query_step_refusal (length atoms) passing line ≡ Some code) × (told ≡ tests)
-IsQueryStep passing line aside atoms tests now told (Next passing_next aside_now) =
-    (is_end passing line ≡ false) × (query_step_refusal (length atoms) passing line ≡ None)
-    × (next_state passing line aside atoms ≡ (passing_next, aside_now, now))
-    × (next_tests (length atoms) passing line tests ≡ told)

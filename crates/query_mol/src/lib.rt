@@ -2,11 +2,10 @@
 #![tactic(auto)]
 
 mod atoms;
-mod blocks;
 mod bonds;
+mod draft;
 mod lists;
 mod properties;
 mod query;
-mod section;
 
 pub use query::{QueryRefusal, read_query};

@@ -4,10 +4,10 @@ ghost use Rattle.mol_section.specs.Lines.{lines_of};
 ghost use Rattle.query_mol.specs.QueryAtoms.{told_atoms};
 ghost use Rattle.query_mol.specs.QueryOutcome.{IsQueryOutcome, IsFirstQueryOutcome};
 
-use crate::blocks::QueryStop;
-use crate::section::read_draft;
+use crate::draft::QueryDraft;
 use ctfile::first_section;
-use htss_defs::{Atom, AtomTest, OutOfMemory, Query, QueryAtom};
+use htss_defs::{Adjacency, Atom, AtomTest, OutOfMemory, Query, QueryAtom};
+use mol_section::{Stop, read_draft};
 use ring_bonds::marked_query;
 use std::alloc::Global;
 
@@ -31,14 +31,15 @@ pub fn read_query(alloc: Global, bytes: &[u8]) -> Result<Result<Query, QueryRefu
 fn section_query(alloc: Global, bytes: &[u8]) -> Result<Result<Query, QueryRefusal>, OutOfMemory>
     ensures { IfOk result (λ outcome. IsQueryOutcome (lines_of bytes.now) outcome) }
 {
-    match read_draft(alloc, bytes) {
-        Err(QueryStop::Memory) => Err(OutOfMemory),
-        Err(QueryStop::Refused { line, code }) => Ok(Err(QueryRefusal {
+    let mut graph = Adjacency::new();
+    match read_draft::<QueryDraft>(alloc, bytes, &mut graph) {
+        Err(Stop::Memory) => Err(OutOfMemory),
+        Err(Stop::Refused { line, code }) => Ok(Err(QueryRefusal {
             line: line + 1,
             code,
         })),
         Ok(read) => {
-            let atoms = told_atoms(alloc, &read.draft.atoms, &read.draft.tests)?;
+            let atoms = told_atoms(alloc, &read.atoms, &read.tests)?;
             Ok(Ok(marked_query(atoms, read.bonds).unwrap()))
         }
     }

@@ -1,13 +1,10 @@
-use Rattle.std.proofs.Common.{◌+◌, ◌≤◌, length}
+use Rattle.std.proofs.Common.{length}
 use Rattle.mol_section.specs.Lines.{lines_of}
 use Rattle.mol_section.specs.Walk.{AtProperties}
 use Rattle.mol_section.proofs.blocks.read_properties.Given as goal
 
-abbrev pub invariant-loop-taken : goal.invariant-loop-taken
-invariant-loop-taken l = record {
-  at : AtProperties (lines_of l.bytes) l.sizes l.passed l.passing (lines_of l.rest) l.aside l.atoms.items l.bonds.items;
-  shorter : l.passed + length l.rest ≤ length l.bytes;
-}
+abbrev pub invariant-loop-line : goal.invariant-loop-line
+invariant-loop-line g l = AtProperties g.D.Draft.refusals (lines_of l.bytes) l.lines.passed l.passing (lines_of l.lines.rest.now) l.graph (g.D.Draft.holds l.draft)
 
-abbrev pub decreases-loop-taken : goal.decreases-loop-taken
-decreases-loop-taken l = length l.rest
+abbrev pub decreases-loop-line : goal.decreases-loop-line
+decreases-loop-line g l = length l.lines.rest.now
