@@ -3,7 +3,7 @@ use crate::boards::{close, open};
 use crate::checks::{Tally, check_pages, check_rows};
 use crate::loads::load;
 use crate::pages::pages_of;
-use crate::sketches::{Sketch, drawn_sketches, forked_sketches};
+use crate::sketches::{Sketch, carbons, drawn_sketches, forked_sketches};
 use crate::walks::walk_of;
 use htss_defs::Shape;
 use std::alloc::Global;
@@ -64,6 +64,23 @@ fn each_row_is_found_once_where_all_meet(rt: HostRuntime) -> Result<(), Fail> {
         let tally = tally_of(&rt, alloc, shape_of(8, pages, 65_535), sketches.as_slice())?;
         assert_eq!(rt; tally.published.wrapping_add(tally.refused), 120);
         assert!(rt; pages < 4000 || tally.rows == 720);
+    }
+    Ok(())
+}
+
+// Equal rows share a chain of leaves, of which each loader keeps the last one in mind. A chain of five leaves takes
+// seventy rows, and then each loader finds it full.
+#[test]
+fn equal_rows_are_found_once(rt: HostRuntime) -> Result<(), Fail> {
+    let alloc = rt.alloc();
+    let sketches = carbons(alloc, 200)?;
+    for loaders in [1, 8] {
+        for (chain, most) in [(65_535, 200), (5, 70)] {
+            let shape = shape_of(loaders, 4000, chain);
+            let tally = tally_of(&rt, alloc, shape, sketches.as_slice())?;
+            assert_eq!(rt; tally.published, most);
+            assert_eq!(rt; tally.rows, most);
+        }
     }
     Ok(())
 }
