@@ -1,6 +1,6 @@
 -- What the lines of a record make of its draft, and the record of a whole section.
-use Rattle.std.proofs.Common.{◌≡◌, ℕ, zero, suc, ◌+◌, ◌≤◌, Bool, false, ◌||◌, List, [], ◌∷◌, ◌++◌, length, take, drop, map, get_or, All, refl, sym, ap, subst, ◌∙◌, inl, inr, arith}
-use Rattle.std.specs.Prelude.{Option, Some, None, AllPairs, slice_get, unwrap_or}
+use Rattle.std.proofs.Common.{◌≡◌, ℕ, zero, suc, ◌+◌, ◌≤◌, Bool, false, not, ◌||◌, ◌&&◌, eqb, leb, List, [], ◌∷◌, ◌++◌, length, take, drop, map, get_or, All, refl, sym, ap, subst, ◌∙◌, inl, inr, arith}
+use Rattle.std.specs.Prelude.{Option, Some, None, is_some, AllPairs, slice_get, unwrap_or}
 use Rattle.std.specs.List.{list_any}
 use Rattle.std.proofs.lemmas.List.{map-append, length-map, take_at}
 use Rattle.std.proofs.lemmas.List.Elements.{All-nil, All-push, All-get_or}
@@ -12,9 +12,11 @@ use Rattle.htss_defs.specs.Adjacency.{with_bond}
 use Rattle.htss_defs.specs.Graph.{Graph, AreApart, joins}
 use Rattle.htss_defs.specs.Marked.{IsMarked, unmarked}
 use Rattle.htss_defs.specs.Molecule.{Molecule, IsMolecule, IsAtom, IsBond, AreBondsApart, bond_ends, molecule_graph}
-use Rattle.mol_section.specs.SectionLines.{atom, bond, property, kind_refusal, atom_refusal, bond_refusal, property_refusal, atom_count, bond_lines_before, ends_of, bond_first, bond_second}
+use Rattle.mol_section.specs.SectionLines.{atom, bond, property, first_code, is_place, bond_kind, kind_refusal, atom_refusal, bond_refusal, property_refusal, atom_count, bond_lines_before, ends_of, bond_first, bond_second}
 use Rattle.mol_section.specs.SectionRecord.{IsAccepted, IsOutcome, refused, name_of, atom_of, bond_of, sets_charges_aside}
 use Rattle.mol_section.specs.AtomLines.{SaysAtom, IsAtomFrom}
+use Rattle.mol_section.specs.declared.bonds.ReadBond.{ReadBond}
+use Rattle.mol_section.specs.Fields.{field, number_of}
 use Rattle.mol_section.specs.BondLines.{SaysBond, graph_refusal, is_taken}
 use Rattle.mol_section.specs.PropertyLines.{with_property, sets_aside}
 use Rattle.mol_section.specs.Walk.{Parts, no_parts, with_line, IsGraphOf, IsHere, IsStop, IsRead}
@@ -65,16 +67,30 @@ module _ {lines : List (List ℕ)} {n : ℕ} {line : List ℕ} {parts : Parts} {
       record { atoms = here.graph_is.atoms; bonds_are = here.graph_is.bonds_are },
     )
 
-pub list_any-map : {X Y : Type 0} (p : Y → Bool) (f : X → Y) (xs : List X) → list_any p (map f xs) ≡ list_any (λ x. p (f x)) xs
+list_any-map : {X Y : Type 0} (p : Y → Bool) (f : X → Y) (xs : List X) → list_any p (map f xs) ≡ list_any (λ x. p (f x)) xs
 list_any-map p f [] = refl
 list_any-map p f (x ∷ xs) = ap (λ (b : Bool). p (f x) || b) (list_any-map p f xs)
 
-graph_refusal-lines : (graph : Graph) (earlier : List (List ℕ)) (line : List ℕ) → graph.bonds ≡ map ends_of earlier → graph_refusal graph line ≡ bond_refusal graph.atoms earlier line
+-- the refusal of a bond line by the bond lines before it
+abbrev pub earlier_refusal : ℕ → ℕ → List (List ℕ) → List ℕ → Option ℕ
+earlier_refusal most atoms earlier line = first_code ((
+  is_some (number_of (field 1 3 line)) && is_some (number_of (field 4 6 line)) && is_some (number_of (field 7 9 line)),
+  7,
+)
+    ∷ (is_place atoms (bond_first line) && is_place atoms (bond_second line) && not (eqb (bond_first line) (bond_second line)), 8)
+    ∷ (leb 1 (bond_kind line) && leb (bond_kind line) most, 9)
+    ∷ (not (list_any (λ other. joins (ends_of other) (bond_first line) (bond_second line)) earlier), 10)
+    ∷ [])
+
+pub graph_refusal-lines : (most : ℕ) (graph : Graph) (earlier : List (List ℕ)) (line : List ℕ) → graph.bonds ≡ map ends_of earlier → graph_refusal most graph line ≡ earlier_refusal most graph.atoms earlier line
 unfolding graph_refusal is_taken
-graph_refusal-lines graph earlier line are =
+graph_refusal-lines most graph earlier line are =
     let taken : is_taken graph.bonds (ends_of line) ≡ list_any (λ other. joins (ends_of other) (bond_first line) (bond_second line)) earlier =
     ap (λ (x : List Ends). is_taken x (ends_of line)) are ∙ list_any-map (λ other. joins other (bond_first line) (bond_second line)) ends_of earlier in
     rw taken refl
+
+abbrev bond_from : ReadBond → Bond
+bond_from says = record { first = says.ends.first; second = says.ends.second; kind = says.kind; ring = false }
 
 -- the graph with one bond more
 pub graph_more : {graph now : Graph} {parts : Parts} (line : List ℕ) (ends : Ends) → ends ≡ ends_of line → now ≡ with_bond graph ends → IsGraphOf graph parts → IsGraphOf now (with_line bond line parts)
@@ -100,29 +116,30 @@ ends_are [] = refl
 ends_are (line ∷ lines) = ap (λ (x : List Ends). ends_of line ∷ x) (ends_are lines)
 
 module _ {lines : List (List ℕ)} {n : ℕ} {line : List ℕ} {parts : Parts} {graph : Graph} where
-  pub bond_refused : {code : Option ℕ} → IsHere BondLine lines n line parts graph → graph_refusal graph line ≡ code → kind_refusal lines n bond ≡ code
+  pub bond_refused : {code : Option ℕ} → IsHere BondLine lines n line parts graph → graph_refusal 4 graph line ≡ code → kind_refusal lines n bond ≡ code
   bond_refused here is =
       ap (λ (x : List ℕ). bond_refusal (atom_count lines) (bond_lines_before lines n) x) here.here
       ∙ ap (λ (x : List (List ℕ)). bond_refusal (atom_count lines) x line) here.due.0
       ∙ ap (λ (k : ℕ). bond_refusal k parts.bonds line) (here.size_is ∙ sym here.graph_is.atoms)
-      ∙ sym (graph_refusal-lines graph parts.bonds line here.graph_is.bonds_are) ∙ is
+      ∙ sym (graph_refusal-lines 4 graph parts.bonds line here.graph_is.bonds_are) ∙ is
 
   module _ {atoms : List Atom} {bonds : List Bond} {aside : Bool} where
-    pub bond_taken : (longer : List Bond) (b : Bond) (now : Graph) → longer ≡ bonds ++ b ∷ [] → SaysBond graph line b → now ≡ with_bond graph (bond_ends b) → Keeps atoms bonds aside parts → IsHere BondLine lines n line parts graph
+    pub bond_taken : (longer : List Bond) (says : ReadBond) (now : Graph) → longer ≡ bonds ++ bond_from says ∷ [] → SaysBond 4 graph line says → now ≡ with_bond graph says.ends → Keeps atoms bonds aside parts → IsHere BondLine lines n line parts graph
         → (kind_refusal lines n bond ≡ None) × Keeps atoms longer aside (with_line bond line parts) × IsGraphOf now (with_line bond line parts)
-    bond_taken longer b now longer-is says now-is keeps here =
+    bond_taken longer one now longer-is says now-is keeps here =
+        let same : bond_from one ≡ bond_of line = rw (says.ends_are, says.kind_is) refl in
         let are : graph.bonds ≡ map bond_ends bonds = here.graph_is.bonds_are ∙ sym (ends_are parts.bonds) ∙ ap (map bond_ends) (sym keeps.bonds_are) in
-        let valid : IsBond parts.size b = subst (λ (k : ℕ). IsBond k b) here.graph_is.atoms says.valid in (
+        let valid : IsBond parts.size (bond_from one) = subst (λ (k : ℕ). IsBond k (bond_from one)) here.graph_is.atoms (record { ends = says.valid; kind = says.kind }) in (
           bond_refused here says.passes,
           record {
             atoms_are = keeps.atoms_are;
             valid_atoms = keeps.valid_atoms;
-            bonds_are = longer-is ∙ ap (λ (x : List Bond). x ++ b ∷ []) keeps.bonds_are ∙ ap (λ (x : Bond). map bond_of parts.bonds ++ x ∷ []) says.says ∙ sym (map-append bond_of parts.bonds (line ∷ []));
-            valid_bonds = subst (All (IsBond parts.size)) (sym longer-is) (All-push (IsBond parts.size) bonds b keeps.valid_bonds valid);
-            apart = subst (AllPairs AreBondsApart) (sym longer-is) (apart_more bond_ends bonds b graph.bonds are keeps.apart says.apart);
+            bonds_are = longer-is ∙ ap (λ (x : List Bond). x ++ (bond_from one) ∷ []) keeps.bonds_are ∙ ap (λ (x : Bond). map bond_of parts.bonds ++ x ∷ []) same ∙ sym (map-append bond_of parts.bonds (line ∷ []));
+            valid_bonds = subst (All (IsBond parts.size)) (sym longer-is) (All-push (IsBond parts.size) bonds (bond_from one) keeps.valid_bonds valid);
+            apart = subst (AllPairs AreBondsApart) (sym longer-is) (apart_more bond_ends bonds (bond_from one) graph.bonds are keeps.apart says.apart);
             aside_is = keeps.aside_is;
           },
-          graph_more line (bond_ends b) (ap bond_ends says.says) now-is here.graph_is,
+          graph_more line one.ends says.ends_are now-is here.graph_is,
         )
 
 pub atoms_long : (size : ℕ) (properties lines : List (List ℕ)) (atoms : List Atom) → atoms ≡ made_atoms size properties lines → length atoms ≡ length lines

@@ -1,13 +1,12 @@
 // What a bond line says.
-ghost use Rattle.std.specs.Prelude.{◌≡◌, ℕ, ◌<◌, not, true, false, All, Some, length, IfOk, IfErr};
+ghost use Rattle.std.specs.Prelude.{◌≡◌, ◌<◌, not, true, false, All, Some, length, IfOk, IfErr};
 ghost use Rattle.htss_defs.specs.Graph.{AreApart, AreEnds};
 ghost use Rattle.htss_defs.specs.Adjacency.{with_bond};
-ghost use Rattle.htss_defs.specs.Molecule.{bond_ends};
 ghost use Rattle.mol_section.specs.SectionLines.{is_place};
 ghost use Rattle.mol_section.specs.BondLines.{SaysBond, graph_refusal, is_taken};
 
 use crate::fields::{field, number_of};
-use htss_defs::{Adjacency, Bond, Ends};
+use htss_defs::{Adjacency, Ends};
 
 /// Whether there is such a place among so many atoms.
 pub fn is_place(atoms: u16, place: u16) -> bool
@@ -16,13 +15,20 @@ pub fn is_place(atoms: u16, place: u16) -> bool
     1 <= place && place <= atoms
 }
 
-/// The bond of a bond line, which is added to the graph, or the code of its refusal.
+/// What a bond line says: the places that it joins, and its type.
+#[derive(Clone, Copy, Debug)]
+pub struct ReadBond {
+    pub ends: Ends,
+    pub kind: u8,
+}
+
+/// What a bond line says, whose bond is added to the graph, or the code of its refusal. Types are 1 to `most`.
 #[tactic(auto, unfolding(crate::specs::BondLines::graph_refusal))]
-pub fn bond_of(line: &[u8], graph: &mut Adjacency) -> Result<Bond, u8>
+pub fn bond_line(line: &[u8], most: u8, graph: &mut Adjacency) -> Result<ReadBond, u8>
     requires room { length graph.old.bonds < 999 }
-    ensures refused { IfErr result (λ code. graph_refusal graph.old line.now ≡ Some code) }
-    ensures accepted { IfOk result (λ bond. SaysBond graph.old line.now bond) }
-    ensures added { IfOk result (λ bond. graph.new ≡ with_bond graph.old (bond_ends bond)) }
+    ensures refused { IfErr result (λ code. graph_refusal most graph.old line.now ≡ Some code) }
+    ensures accepted { IfOk result (λ says. SaysBond most graph.old line.now says) }
+    ensures added { IfOk result (λ says. graph.new ≡ with_bond graph.old says.ends) }
     ensures same { IfErr result (λ _. graph.new ≡ graph.old) }
 {
     let Some(first) = number_of(field(line, 1, 3)) else {
@@ -38,22 +44,21 @@ pub fn bond_of(line: &[u8], graph: &mut Adjacency) -> Result<Bond, u8>
     if !is_place(atoms, first) || !is_place(atoms, second) || first == second {
         return Err(8);
     }
-    if kind < 1 || kind > 4 {
+    if kind < 1 || kind > most as u16 {
         return Err(9);
     }
-    if !add_new(graph, Ends { first, second }) {
+    let ends = Ends { first, second };
+    if !add_new(graph, ends) {
         return Err(10);
     }
-    Ok(Bond {
-        first,
-        second,
+    Ok(ReadBond {
+        ends,
         kind: kind as u8,
-        ring: false,
     })
 }
 
-/// Adds a bond unless one joins its places already, and answers whether it did.
-pub fn add_new(graph: &mut Adjacency, ends: Ends) -> bool
+// Adds a bond unless one joins its places already, and answers whether it did.
+fn add_new(graph: &mut Adjacency, ends: Ends) -> bool
     requires ends { AreEnds graph.old.atoms ends }
     requires room { length graph.old.bonds < 999 }
     ensures new { result ≡ not (is_taken graph.old.bonds ends) }

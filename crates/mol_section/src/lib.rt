@@ -16,7 +16,7 @@ mod section;
 mod symbols;
 
 pub use blocks::read_draft;
-pub use bonds::{add_new, is_place};
+pub use bonds::{ReadBond, bond_line, is_place};
 pub use counts::Counts;
 pub use draft::{Draft, Part, Stop};
 pub use fields::{count_of, field, next_word, number_of};

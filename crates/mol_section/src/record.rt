@@ -8,7 +8,7 @@ ghost use Rattle.mol_section.specs.declared.draft.Part.TheVariants.{Atom as Atom
 ghost use Rattle.mol_section.specs.declared.draft.Part.TheVariants.{Property as PropertyLine};
 
 use crate::atoms::atom_of;
-use crate::bonds::bond_of;
+use crate::bonds::bond_line;
 use crate::counts::Counts;
 use crate::draft::{Draft, Part, Stop};
 use crate::properties::take_property;
@@ -79,8 +79,15 @@ impl Record {
         ensures stop { IfErr result (Stops kind_refusal
             (Keeps self.old.atoms.items self.old.bonds.items self.old.aside) BondLine line.now graph.old at) }
     {
-        match bond_of(line, graph) {
-            Ok(bond) => Ok(self.bonds.push(bond)?),
+        match bond_line(line, 4, graph) {
+            Ok(says) => Ok(
+                self.bonds.push(Bond {
+                    first: says.ends.first,
+                    second: says.ends.second,
+                    kind: says.kind,
+                    ring: false,
+                })?,
+            ),
             Err(code) => Err(Stop::Refused { line: at, code }),
         }
     }

@@ -1,5 +1,5 @@
 -- What the lines of a query make of its draft.
-use Rattle.std.proofs.Common.{◌≡◌, ℕ, suc, ℤ, ◌+◌, ◌<◌, ◌≤◌, pos, Bool, true, false, not, ◌||◌, ◌&&◌, List, [], ◌∷◌, ◌++◌, length, map, All, refl, sym, ap, subst, ◌∙◌, arith}
+use Rattle.std.proofs.Common.{◌≡◌, ℕ, suc, ℤ, ◌+◌, ◌<◌, ◌≤◌, pos, Bool, true, false, not, ◌||◌, ◌&&◌, eqb, leb, List, [], ◌∷◌, ◌++◌, length, map, All, refl, sym, ap, subst, ◌∙◌, arith}
 use Rattle.std.specs.Prelude.{Option, Some, None, IfSome, is_some, unwrap_or, AllPairs, nat_lt, if◌then◌else◌}
 use Rattle.std.specs.List.{zip, range_with_len, list_any, list_all}
 use Rattle.std.specs.Str.{bytes_eq}
@@ -14,18 +14,17 @@ use Rattle.htss_defs.specs.declared.query.QueryBond.{QueryBond}
 use Rattle.htss_defs.specs.Adjacency.{with_bond}
 use Rattle.htss_defs.specs.Graph.{Graph, joins}
 use Rattle.htss_defs.specs.QueryGraph.{IsAtomTest, IsQueryBond, AreQueryBondsApart, query_bond_ends}
-use Rattle.mol_section.specs.Fields.{field}
-use Rattle.mol_section.specs.SectionLines.{counts, atom, bond, atom_list, property, end_mark, kinds_of, counts_refusal, property_refusal, first_code, atom_count, line_at, bond_lines_before, ends_of, bond_first, bond_second}
+use Rattle.mol_section.specs.Fields.{field, number_of}
+use Rattle.mol_section.specs.SectionLines.{counts, atom, bond, atom_list, property, end_mark, kinds_of, counts_refusal, property_refusal, first_code, is_place, atom_count, line_at, bond_lines_before, ends_of, bond_first, bond_second, bond_kind}
 use Rattle.mol_section.specs.SectionRecord.{atom_of, sets_charges_aside}
 use Rattle.mol_section.specs.AtomLines.{IsAtomFrom}
-use Rattle.mol_section.specs.BondLines.{is_taken}
 use Rattle.mol_section.specs.PropertyLines.{with_property, sets_aside}
 use Rattle.mol_section.specs.Walk.{Parts, no_parts, with_line, parts_of, IsGraphOf, IsHere}
 use Rattle.mol_section.specs.declared.draft.Part.TheVariants.{Atom as AtomLine, Bond as BondLine, List as ListLine, Property as PropertyLine}
 use Rattle.mol_section.proofs.Made.{made_atoms-push, aside-push, numbered-push}
-use Rattle.mol_section.proofs.Records.{made_push, atoms_long, list_any-map, graph_more, apart_more}
+use Rattle.mol_section.proofs.Records.{made_push, atoms_long, graph_refusal-lines as earlier_lines, graph_more, apart_more}
 use Rattle.query_mol.specs.declared.atoms.AtomLine.{AtomLine as Says}
-use Rattle.query_mol.specs.QueryLines.{AtomList, old_list_of, new_list_of, is_new_list, query_atom_refusal, query_bond_refusal, query_property_refusal}
+use Rattle.query_mol.specs.QueryLines.{AtomList, old_list_of, new_list_of, is_new_list, query_atom_refusal, query_bond_refusal, query_property_refusal, topology_value}
 use Rattle.query_mol.specs.QueryRecord.{symbol_test, query_bond_of, query_kind_refusal, lacks_list}
 use Rattle.query_mol.specs.LineFacts.{SaysQueryAtom, SaysQueryBond, query_graph_refusal, told_symbol, value_or_none}
 use Rattle.query_mol.specs.Tests.{told_test, told_tests, list_at, with_list, with_new_list}
@@ -105,12 +104,24 @@ module _ {lines : List (List ℕ)} {n : ℕ} {line : List ℕ} {parts : Parts} {
 
 -- ---- bond lines
 
+first_four : (a b c d e : Bool) (i j k l m : ℕ) → first_code ((a, i) ∷ (b, j) ∷ (c, k) ∷ (d, l) ∷ (e, m) ∷ [])
+    ≡ (let four = first_code ((a, i) ∷ (b, j) ∷ (c, k) ∷ (d, l) ∷ []) in if is_some four then four else (if e then None else Some m))
+first_four false b c d e i j k l m = refl
+first_four true false c d e i j k l m = refl
+first_four true true false d e i j k l m = refl
+first_four true true true false e i j k l m = refl
+first_four true true true true e i j k l m = refl
+
 graph_refusal-lines : (graph : Graph) (earlier : List (List ℕ)) (line : List ℕ) → graph.bonds ≡ map ends_of earlier → query_graph_refusal graph line ≡ query_bond_refusal graph.atoms earlier line
-unfolding query_graph_refusal is_taken
+unfolding query_graph_refusal
 graph_refusal-lines graph earlier line are =
-    let taken : is_taken graph.bonds (ends_of line) ≡ list_any (λ other. joins (ends_of other) (bond_first line) (bond_second line)) earlier =
-    ap (λ (x : List Ends). is_taken x (ends_of line)) are ∙ list_any-map (λ other. joins other (bond_first line) (bond_second line)) ends_of earlier in
-    rw taken refl
+    ap (λ (o : Option ℕ). if is_some o then o else (if is_some (topology_value (field 16 18 line)) then None else Some 22)) (earlier_lines 8 graph earlier line are)
+    ∙ sym (first_four
+    (is_some (number_of (field 1 3 line)) && is_some (number_of (field 4 6 line)) && is_some (number_of (field 7 9 line)))
+    (is_place graph.atoms (bond_first line) && is_place graph.atoms (bond_second line) && not (eqb (bond_first line) (bond_second line)))
+    (leb 1 (bond_kind line) && leb (bond_kind line) 8)
+    (not (list_any (λ other. joins (ends_of other) (bond_first line) (bond_second line)) earlier))
+    (is_some (topology_value (field 16 18 line))) 7 8 9 10 22)
 
 ends_are : (lines : List (List ℕ)) → map query_bond_ends (map query_bond_of lines) ≡ map ends_of lines
 ends_are [] = refl

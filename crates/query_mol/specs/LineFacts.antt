@@ -1,17 +1,15 @@
 -- What an atom line and a bond line say, and what the reader keeps of them.
-use Rattle.std.specs.Prelude.{◌≡◌, ℕ, List, [], ◌∷◌, Option, None, Some, unwrap_or, IfSome, is_some, not, ◌&&◌, ◌==◌}
-use Rattle.std.specs.Prelude.{nat_le, All, if◌then◌else◌}
+use Rattle.std.specs.Prelude.{◌≡◌, ℕ, List, Option, None, Some, unwrap_or, IfSome, is_some, All, if◌then◌else◌}
 use Rattle.std.specs.Str.{bytes_eq}
 use lib.Chars.{codes}
 use Rattle.htss_defs.specs.declared.query.AtomTest.{AtomTest}
 use Rattle.htss_defs.specs.declared.query.QueryBond.{QueryBond}
 use Rattle.htss_defs.specs.Graph.{Graph, AreApart}
 use Rattle.htss_defs.specs.QueryGraph.{IsAtomTest, IsQueryBond, query_bond_ends}
-use Rattle.mol_section.specs.Fields.{field, number_of}
-use Rattle.mol_section.specs.SectionLines.{first_code, is_place, bond_first, bond_second, bond_kind, ends_of}
+use Rattle.mol_section.specs.Fields.{field}
 use Rattle.mol_section.specs.SectionLines.{symbol_value, charge_value}
 use Rattle.mol_section.specs.AtomLines.{IsAtomFrom}
-use Rattle.mol_section.specs.BondLines.{is_taken}
+use Rattle.mol_section.specs.BondLines.{graph_refusal}
 use Rattle.query_mol.specs.declared.atoms.AtomLine.{AtomLine}
 use Rattle.query_mol.specs.QueryLines.{query_atom_refusal, topology_value}
 use Rattle.query_mol.specs.QueryRecord.{symbol_test, query_bond_of}
@@ -34,22 +32,11 @@ pub record SaysQueryAtom (line : List ℕ) (says : AtomLine) : Type 0 where
   pub valid : IsAtomFrom 0 says.atom
   pub valid_test : IfSome says.test IsAtomTest
 
--- the refusal of a bond line, where the bonds before it are those of the graph
+-- the refusal of a bond line, where the bonds before it are those of the graph: that of ends and type comes first
 unfoldable pub query_graph_refusal : Graph → List ℕ → Option ℕ
-query_graph_refusal graph line = first_code ((
-  is_some (number_of (field 1 3 line)) && is_some (number_of (field 4 6 line))
-      && is_some (number_of (field 7 9 line)),
-  7,
-)
-    ∷ (
-      is_place graph.atoms (bond_first line) && is_place graph.atoms (bond_second line)
-          && not (bond_first line == bond_second line),
-      8,
-    )
-    ∷ (nat_le 1 (bond_kind line) && nat_le (bond_kind line) 8, 9)
-    ∷ (not (is_taken graph.bonds (ends_of line)), 10)
-    ∷ (is_some (topology_value (field 16 18 line)), 22)
-    ∷ [])
+query_graph_refusal graph line =
+    let first = graph_refusal 8 graph line in
+    if is_some first then first else (if is_some (topology_value (field 16 18 line)) then None else Some 22)
 
 -- the line is accepted, and says this of its bond
 pub record SaysQueryBond (graph : Graph) (line : List ℕ) (bond : QueryBond) : Type 0 where

@@ -1,12 +1,12 @@
 // What a bond line of a query says.
-ghost use Rattle.std.specs.Prelude.{◌≡◌, ℕ, ◌<◌, ◌≤◌, Some, length, IfOk, IfErr, IfSome};
+ghost use Rattle.std.specs.Prelude.{◌≡◌, ◌<◌, ◌≤◌, Some, length, IfOk, IfErr, IfSome};
 ghost use Rattle.htss_defs.specs.Adjacency.{with_bond};
 ghost use Rattle.htss_defs.specs.QueryGraph.{query_bond_ends};
 ghost use Rattle.query_mol.specs.QueryLines.{topology_value};
 ghost use Rattle.query_mol.specs.LineFacts.{SaysQueryBond, query_graph_refusal};
 
-use htss_defs::{Adjacency, Ends, QueryBond};
-use mol_section::{add_new, count_of, field, is_place, number_of};
+use htss_defs::{Adjacency, QueryBond};
+use mol_section::{bond_line, count_of, field};
 
 /// The bond of a bond line, which is added to the graph, or the code of its refusal.
 #[tactic(auto, unfolding(crate::specs::LineFacts::query_graph_refusal))]
@@ -16,32 +16,14 @@ pub fn bond_of(line: &[u8], graph: &mut Adjacency) -> Result<QueryBond, u8>
     ensures accepted { IfOk result (λ bond. SaysQueryBond graph.old line.now bond) }
     ensures added { IfOk result (λ bond. graph.new ≡ with_bond graph.old (query_bond_ends bond)) }
 {
-    let Some(first) = number_of(field(line, 1, 3)) else {
-        return Err(7);
-    };
-    let Some(second) = number_of(field(line, 4, 6)) else {
-        return Err(7);
-    };
-    let Some(kind) = number_of(field(line, 7, 9)) else {
-        return Err(7);
-    };
-    let atoms = graph.atoms();
-    if !is_place(atoms, first) || !is_place(atoms, second) || first == second {
-        return Err(8);
-    }
-    if kind < 1 || kind > 8 {
-        return Err(9);
-    }
-    if !add_new(graph, Ends { first, second }) {
-        return Err(10);
-    }
+    let says = bond_line(line, 8, graph)?;
     let Some(topology) = topology_value(field(line, 16, 18)) else {
         return Err(22);
     };
     Ok(QueryBond {
-        first,
-        second,
-        kind: kind as u8,
+        first: says.ends.first,
+        second: says.ends.second,
+        kind: says.kind,
         topology,
         ring: false,
     })
