@@ -1,8 +1,6 @@
 // Scripts, as they are read.
-ghost use Rattle.std.specs.Prelude.{◌≡◌};
-
 use htss_defs::FileName;
-use std::marker::Model;
+use items::Items;
 
 /// What a job asks for.
 #[derive(Debug, Drop)]
@@ -24,36 +22,8 @@ pub struct Job {
     pub order: Order,
 }
 
-/// The jobs of a group, in the order of their lines: contracts see them as a list.
-#[derive(Debug, Drop)]
-pub struct Jobs {
-    jobs: Vec<Job>,
-}
-
-impl Model for Jobs {
-    ghost use Rattle.std.specs.Prelude.{List};
-    ghost use Rattle.script_text.specs.declared.script.Job.{Job};
-
-    ghost Value = { List Job };
-
-    ghost view = { λ j. j.jobs.items };
-}
-
-impl Jobs {
-    /// The jobs of this vector. It takes no memory.
-    pub fn new(jobs: Vec<Job>) -> Jobs
-        ensures { result ≡ jobs.items }
-    {
-        Jobs { jobs }
-    }
-
-    /// The jobs.
-    pub fn as_slice(&self) -> &[Job]
-        ensures { result.now ≡ self.now }
-    {
-        self.jobs.as_slice()
-    }
-}
+/// The jobs of a group, in the order of their lines.
+pub type Jobs = Items<Job>;
 
 /// The jobs that stand between two lines `settle`.
 #[derive(Debug, Drop)]
@@ -62,36 +32,8 @@ pub struct Group {
     pub jobs: Jobs,
 }
 
-/// The groups of a script, in their order: contracts see them as a list.
-#[derive(Debug, Drop)]
-pub struct Groups {
-    groups: Vec<Group>,
-}
-
-impl Model for Groups {
-    ghost use Rattle.std.specs.Prelude.{List};
-    ghost use Rattle.script_text.specs.declared.script.Group.{Group};
-
-    ghost Value = { List Group };
-
-    ghost view = { λ g. g.groups.items };
-}
-
-impl Groups {
-    /// The groups of this vector. It takes no memory.
-    pub fn new(groups: Vec<Group>) -> Groups
-        ensures { result ≡ groups.items }
-    {
-        Groups { groups }
-    }
-
-    /// The groups.
-    pub fn as_slice(&self) -> &[Group]
-        ensures { result.now ≡ self.now }
-    {
-        self.groups.as_slice()
-    }
-}
+/// The groups of a script, in their order.
+pub type Groups = Items<Group>;
 
 /// A script.
 #[derive(Debug, Drop)]
