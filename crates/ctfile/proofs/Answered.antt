@@ -8,14 +8,16 @@ use Rattle.std.proofs.lemmas.Bool.{false≢true, cond-true, cond-false}
 use Rattle.std.proofs.lemmas.Bool.Decides.{Decides-eqb}
 use Rattle.mol_section.specs.Lines.{without_cr, lines_of, ends_section}
 use Rattle.mol_section.specs.Fields.{is_blank}
-use Rattle.mol_section.specs.SectionRecord.{Outcome, IsOutcome, outcome_of}
+use Rattle.htss_defs.specs.Molecule.{Molecule}
+use Rattle.mol_section.specs.SectionRecord.{Outcome, IsOutcome, accepted, refused, outcome_of}
+use Rattle.mol_section.specs.Unmarked.{IfMarked}
 use Rattle.mol_section.specs.declared.outcome.SectionOutcome.{SectionOutcome}
 use Rattle.mol_section.specs.declared.outcome.SectionOutcome.TheVariants.{Accepted, Refused}
 use Rattle.ctfile.specs.declared.reader.Next.{Next}
 use Rattle.ctfile.specs.declared.reader.Next.TheVariants.{End}
 use Rattle.ctfile.specs.RecordList.{AreSections, last_sections, AreOutcomes, IsRecordList}
 use Rattle.ctfile.specs.Cut.{AreWhole, NoneEnds, LineEnds, IsSection, TakesSection, TakesLast, TakesLines, has_text}
-use Rattle.ctfile.specs.Stream.{ReaderState, IsWithin, TakesRecord, HasEnded, IfRecord, answer_of, AreRead, AreAllRead, HasRead}
+use Rattle.ctfile.specs.Stream.{ReaderState, IsWithin, TakesRecord, HasEnded, IfUnmarked, IfMolecule, answer_of, AreRead, AreAllRead, HasRead}
 use Rattle.mol_section.proofs.Outcomes.{length-lines_of}
 use Rattle.ctfile.proofs.LinesOf.{lines_of-append, lines_of-nil, ends_section-without_cr}
 use Rattle.ctfile.proofs.Looked.{IsSection-lines, NoneEnds-no_section}
@@ -121,13 +123,26 @@ TakesRecord-shorter old new outcome t =
     let less = TakesLines-less old.finished old.pending t.section new.pending t.lines t.takes in
     less.shorter
 
--- an answer that tells an outcome is a record
-pub IfRecord-told : (P : ℕ → Outcome → Type 0) (next : Next) (place : ℕ) (told : SectionOutcome) → next ≡ answer_of place told → P place (outcome_of told) → IfRecord next P
-IfRecord-told P next place told is p = subst (λ (n : Next). IfRecord n P) (sym is) (go told p)
+-- an answer that tells an outcome is a record, once its ring bonds are marked
+pub IfUnmarked-told : (P : ℕ → Outcome → Type 0) (next : Next) (place : ℕ) (told : SectionOutcome) → next ≡ answer_of place told → IfMarked (P place) (outcome_of told) → IfUnmarked next P
+IfUnmarked-told P next place told is p = subst (λ (n : Next). IfUnmarked n P) (sym is) (go told p)
   where
-    go : (told : SectionOutcome) → P place (outcome_of told) → IfRecord (answer_of place told) P
+    go : (told : SectionOutcome) → IfMarked (P place) (outcome_of told) → IfUnmarked (answer_of place told) P
     go (Accepted name mol) p = p
     go (Refused line code) p = p
+
+-- what follows from a fact of the marked outcome
+pub IfMarked-more : (P Q : Outcome → Type 0) (told : SectionOutcome) → ((outcome : Outcome) → P outcome → Q outcome) → IfMarked P (outcome_of told) → IfMarked Q (outcome_of told)
+IfMarked-more P Q (Accepted name mol) more p = λ marked is same. more (accepted name marked) (p marked is same)
+IfMarked-more P Q (Refused line code) more p = more (refused line code) p
+
+-- a fact of the molecule that is told
+pub IfMolecule-told : (P : Molecule → Type 0) (next : Next) (place : ℕ) (told : SectionOutcome) → next ≡ answer_of place told → ((name : List ℕ) (mol : Molecule) → outcome_of told ≡ accepted name mol → P mol) → IfMolecule next P
+IfMolecule-told P next place told is p = subst (λ (n : Next). IfMolecule n P) (sym is) (go told p)
+  where
+    go : (told : SectionOutcome) → ((name : List ℕ) (mol : Molecule) → outcome_of told ≡ accepted name mol → P mol) → IfMolecule (answer_of place told) P
+    go (Accepted name mol) p = p name mol refl
+    go (Refused line code) p = tt
 
 pub answer-not_end : (place : ℕ) (told : SectionOutcome) → answer_of place told ≡ End → ⊥
 answer-not_end place (Accepted name mol) e = cc

@@ -3,3 +3,4 @@ pub mod Looked
 pub mod Answered
 pub mod MarkedOnes
 pub mod OneList
+pub mod Marks

@@ -2,8 +2,10 @@
 use Rattle.std.specs.Prelude.{◌≡◌, ◌⊎◌, ℕ, ◌+◌, List, [], ◌++◌, ◌≤◌, ◌<◌, ◌^◌, length, Bool, true, false, Result, Ok}
 use Rattle.std.specs.Prelude.{Err}
 use Rattle.htss_defs.specs.Molecule.{Molecule}
+use Rattle.htss_defs.specs.Marked.{IsMarked, unmarked_molecule}
 use Rattle.mol_section.specs.Lines.{lines_of}
 use Rattle.mol_section.specs.SectionRecord.{Outcome, accepted, refused, IsOutcome}
+use Rattle.mol_section.specs.Unmarked.{IfMarked}
 use Rattle.ctfile.specs.Cut.{AreWhole, NoSection, TakesLines, IsFirstSection, has_text}
 use Rattle.ctfile.specs.RecordList.{AreSections, AreOutcomes, IsRecordList}
 use Rattle.mol_section.specs.declared.outcome.SectionOutcome.{SectionOutcome}
@@ -61,6 +63,26 @@ IfRecord (Accepted place name mol) P = P place (accepted name mol)
 IfRecord (Refused place line code) P = P place (refused line code)
 IfRecord NeedMore P = Unit {0}
 IfRecord End P = Unit {0}
+
+-- the same for an answer whose molecule is unmarked: the fact holds of its outcome once the ring bonds are marked
+abbrev pub IfUnmarked : Next → (ℕ → Outcome → Type 0) → Type 0
+IfUnmarked (Accepted place name mol) P = IfMarked (P place) (accepted name mol)
+IfUnmarked (Refused place line code) P = P place (refused line code)
+IfUnmarked NeedMore P = Unit {0}
+IfUnmarked End P = Unit {0}
+
+-- the fact for the molecule of an answer
+abbrev pub IfMolecule : Next → (Molecule → Type 0) → Type 0
+IfMolecule (Accepted place name mol) P = P mol
+IfMolecule (Refused place line code) P = Unit {0}
+IfMolecule NeedMore P = Unit {0}
+IfMolecule End P = Unit {0}
+
+-- some molecule is this one with its ring bonds marked
+pub record HasMarks (mol : Molecule) : Type 0 where
+  pub marked : Molecule
+  pub is_marked : IsMarked marked
+  pub same : unmarked_molecule marked ≡ unmarked_molecule mol
 
 -- the fact for an answer that is no record
 abbrev pub IfNoRecord : Next → Type 0 → Type 0

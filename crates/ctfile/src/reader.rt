@@ -1,15 +1,13 @@
 // A reader of the records of a stream that comes in pieces.
-ghost use Rattle.std.specs.Prelude.{◌≡◌, ◌↔◌, ℕ, ◌+◌, ◌^◌, ◌<◌, ◌≤◌, ◌++◌, ◌∷◌, List, [], length, true, false};
+ghost use Rattle.std.specs.Prelude.{◌≡◌, ◌↔◌, ℕ, ◌+◌, ◌^◌, ◌<◌, ◌++◌, ◌∷◌, List, [], length, true, false};
 ghost use Rattle.std.specs.Prelude.{IfOk, OnOk, OnErr};
 ghost use Rattle.mol_section.specs.SectionRecord.{Outcome};
 ghost use Rattle.ctfile.specs.RecordList.{IsRecordList};
 ghost use Rattle.ctfile.specs.Stream.{HasRead, TakesRecord, NeedsMore, HasEnded, IfRecord, IfNoRecord, empty_state};
 ghost use Rattle.ctfile.specs.Stream.{with_piece};
-ghost use Rattle.ctfile.specs.Stream.{answer_of};
 
-use crate::cut::Pending;
+use crate::unmarked::UnmarkedReader;
 use htss_defs::{Adjacency, Mol, Name, OutOfMemory};
-use mol_section::{SectionOutcome, read_section_with};
 use ring_bonds::RingMarker;
 use std::alloc::Global;
 use std::marker::Model;
@@ -27,32 +25,19 @@ pub enum Next {
 /// A reader of an SDfile that comes in pieces. Contracts see what is pending, and how much was answered.
 #[derive(Drop)]
 pub struct RecordReader {
-    alloc: Global,
-    pending: Pending,
-    // what bonds are linked into, one record after the other
+    unmarked: UnmarkedReader,
+    // of the molecule that was read last
     graph: Adjacency,
-    // what their ring bonds are marked in
+    // what ring bonds are marked in, of one molecule after the other
     marker: RingMarker,
-    place: u32,
-    line: u64,
-    fed: u32,
-    finished: bool,
 }
 
 impl Model for RecordReader {
-    ghost use Rattle.ctfile.specs.Stream.{ReaderState, IsWithin};
+    ghost use Rattle.ctfile.specs.Stream.{ReaderState};
 
     ghost Value = { ReaderState };
 
-    ghost view = { λ r. record {
-      pending = r.pending;
-      place = r.place;
-      line = r.line;
-      fed = r.fed;
-      finished = r.finished;
-    } };
-
-    ghost invariant = { λ r. IsWithin r.pending r.place r.line r.fed };
+    ghost view = { λ r. r.unmarked };
 }
 
 impl RecordReader {
@@ -62,14 +47,9 @@ impl RecordReader {
         ensures read { IfOk result (λ reader. HasRead [] [] reader) }
     {
         Ok(RecordReader {
-            alloc,
-            pending: Pending::new(alloc),
+            unmarked: UnmarkedReader::new(alloc)?,
             graph: Adjacency::new(),
             marker: RingMarker::new(),
-            place: 0,
-            line: 0,
-            fed: 0,
-            finished: false,
         })
     }
 
@@ -82,9 +62,7 @@ impl RecordReader {
             → HasRead stream outcomes self.old → HasRead (stream ++ piece.now) outcomes self.new) }
         ensures err { OnErr result (self.new ≡ self.old) }
     {
-        self.pending.feed(piece)?;
-        self.fed += piece.len() as u32;
-        Ok(())
+        self.unmarked.feed(piece)
     }
 
     /// The stream is over.
@@ -94,7 +72,7 @@ impl RecordReader {
         ensures read { (stream : List ℕ) (outcomes : List Outcome)
             → HasRead stream outcomes self.old → HasRead stream outcomes self.new }
     {
-        self.finished = true;
+        self.unmarked.finish();
     }
 
     /// The next record. On `Err` the reader is as it was, and the call may be made again.
@@ -115,35 +93,17 @@ impl RecordReader {
             → HasRead stream outcomes self.old → IsRecordList stream outcomes) }
         ensures err { OnErr result (self.new ≡ self.old) }
     {
-        let Some(taken) = self.pending.next_taken(self.finished) else {
-            return Ok(if self.finished {
-                Next::End
-            } else {
-                Next::NeedMore
-            });
-        };
-        let section = &self.pending.bytes()[..taken.section];
-        let outcome = read_section_with(
-            self.alloc,
-            section,
-            self.line + 1,
-            &mut self.graph,
-            &mut self.marker,
-        )?;
-        self.pending.pass(taken.bytes);
-        self.place += 1;
-        self.line += taken.lines;
-        Ok(next_of(self.place, outcome))
-    }
-}
-
-// The answer that tells this outcome.
-fn next_of(place: u32, outcome: SectionOutcome) -> Next
-    ensures { result ≡ answer_of place outcome }
-{
-    match outcome {
-        SectionOutcome::Accepted { name, mol } => Next::Accepted { place, name, mol },
-        SectionOutcome::Refused { line, code } => Next::Refused { place, line, code },
+        match self.unmarked.next_unmarked(&mut self.graph)? {
+            Next::Accepted {
+                place,
+                name,
+                mut mol,
+            } => {
+                self.marker.mark(&mut mol, &self.graph);
+                Ok(Next::Accepted { place, name, mol })
+            }
+            next => Ok(next),
+        }
     }
 }
 

@@ -8,3 +8,4 @@ pub mod AtomLines
 pub mod BondLines
 pub mod PropertyLines
 pub mod Names
+pub mod Unmarked

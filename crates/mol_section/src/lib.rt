@@ -23,5 +23,5 @@ pub use fields::{count_of, field, next_word, number_of};
 pub use lines::next_line;
 pub use outcome::SectionOutcome;
 pub use properties::take_property;
-pub use section::{read_section, read_section_with};
+pub use section::{read_section, read_unmarked};
 pub use symbols::{charge_value, symbol_value};

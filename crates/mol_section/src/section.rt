@@ -1,10 +1,9 @@
 // The record of a section.
-ghost use Rattle.std.specs.Prelude.{◌≡◌, ℕ, ◌+◌, ◌^◌, ◌<◌, ◌≤◌, length, take, map, slice_get};
+ghost use Rattle.std.specs.Prelude.{◌≡◌, ℕ, ◌+◌, ◌^◌, ◌<◌, ◌≤◌, length, take, slice_get};
 ghost use Rattle.std.specs.Prelude.{Some, IsSome, IfOk, IfErr};
-ghost use Rattle.htss_defs.specs.Molecule.{IsMolecule, molecule_graph};
-ghost use Rattle.htss_defs.specs.Marked.{IsMarked, unmarked};
 ghost use Rattle.mol_section.specs.Lines.{lines_of};
 ghost use Rattle.mol_section.specs.SectionRecord.{IsOutcome, outcome_of, name_of};
+ghost use Rattle.mol_section.specs.Unmarked.{IfMarked, HasGraph};
 ghost use Rattle.mol_section.specs.Names.{visible};
 
 use crate::SectionOutcome;
@@ -14,8 +13,8 @@ use crate::fields::trim;
 use crate::lines::next_line;
 use crate::record::Record;
 use arrayvec::ArrayVec;
-use htss_defs::{Adjacency, Atom, Bond, Mol, Name, OutOfMemory};
-use ring_bonds::RingMarker;
+use htss_defs::{Adjacency, Mol, Name, OutOfMemory};
+use ring_bonds::mark_linked;
 use std::alloc::Global;
 
 /// The outcome of the section with these bytes, whose first line has this number: its record,
@@ -26,21 +25,27 @@ pub fn read_section(alloc: Global, bytes: &[u8], first: u64) -> Result<SectionOu
     ensures { IfOk result (λ outcome. IsOutcome first (lines_of bytes.now) (outcome_of outcome)) }
 {
     let mut graph = Adjacency::new();
-    let mut marker = RingMarker::new();
-    read_section_with(alloc, bytes, first, &mut graph, &mut marker)
+    match read_unmarked(alloc, bytes, first, &mut graph)? {
+        SectionOutcome::Accepted { name, mut mol } => {
+            mark_linked(&mut mol, &graph);
+            Ok(SectionOutcome::Accepted { name, mol })
+        }
+        SectionOutcome::Refused { line, code } => Ok(SectionOutcome::Refused { line, code }),
+    }
 }
 
-/// The same, with a graph and a marker that are used again and again: what they were before makes
-/// no difference.
-pub fn read_section_with(
+/// The same, with all bonds left unmarked. The graph, whatever it was, becomes that of the molecule,
+/// so that its ring bonds can be marked afterwards.
+pub fn read_unmarked(
     alloc: Global,
     bytes: &[u8],
     first: u64,
     graph: &mut Adjacency,
-    marker: &mut RingMarker,
 ) -> Result<SectionOutcome, OutOfMemory>
     requires { first + length bytes.now < 2 ^ 64 }
-    ensures { IfOk result (λ outcome. IsOutcome first (lines_of bytes.now) (outcome_of outcome)) }
+    ensures told { IfOk result (λ outcome.
+        IfMarked (IsOutcome first (lines_of bytes.now)) (outcome_of outcome)) }
+    ensures graph { IfOk result (λ outcome. HasGraph graph.new (outcome_of outcome)) }
 {
     match read_draft::<Record>(alloc, bytes, graph) {
         Err(Stop::Memory) => Err(OutOfMemory),
@@ -50,23 +55,9 @@ pub fn read_section_with(
         }),
         Ok(draft) => Ok(SectionOutcome::Accepted {
             name: name_of(first_line(bytes)),
-            mol: marked(draft.atoms, draft.bonds, graph, marker),
+            mol: Mol::of_valid(draft.atoms, draft.bonds),
         }),
     }
-}
-
-// The molecule of these lists, whose graph this is, with its ring bonds marked.
-fn marked(atoms: Vec<Atom>, bonds: Vec<Bond>, graph: &Adjacency, marker: &mut RingMarker) -> Mol
-    requires valid { IsMolecule (record { atoms = atoms.items; bonds = bonds.items }) }
-    requires graph { graph.now
-        ≡ molecule_graph (record { atoms = atoms.items; bonds = bonds.items }) }
-    ensures marked { IsMarked result }
-    ensures atoms { result.atoms ≡ atoms.items }
-    ensures bonds { map unmarked result.bonds ≡ map unmarked bonds.items }
-{
-    let mut mol = Mol::of_valid(atoms, bonds);
-    marker.mark(&mut mol, graph);
-    mol
 }
 
 // The first line.
