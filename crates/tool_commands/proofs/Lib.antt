@@ -8,3 +8,4 @@ pub mod MadeLength
 pub mod Summed
 pub mod Streams
 pub mod CodesLines
+pub mod Unmarked

@@ -5,7 +5,7 @@ ghost use Rattle.command_ends.specs.RecordTexts.{check_text};
 
 use crate::taker::Taker;
 use hit_report::{push_ok, push_records, push_refused};
-use htss_defs::{Mol, Name, OutOfMemory};
+use htss_defs::{Adjacency, Mol, Name, OutOfMemory};
 use std::alloc::Global;
 
 #[derive(Drop)]
@@ -59,7 +59,13 @@ impl Taker for CheckTaker {
 
     ghost taken = { λ t. t.place };
 
-    fn accept(&mut self, place: u32, name: &Name, mol: &Mol) -> Result<(), OutOfMemory> {
+    fn accept(
+        &mut self,
+        place: u32,
+        name: &Name,
+        mol: Mol,
+        _graph: &Adjacency,
+    ) -> Result<(), OutOfMemory> {
         let atoms = mol.atoms().len();
         let bonds = mol.bonds().len();
         push_ok(&mut self.text, place, atoms, bonds, name.bytes())?;

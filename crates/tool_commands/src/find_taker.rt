@@ -9,7 +9,7 @@ ghost use Rattle.command_ends.specs.FindText.{reply_text};
 use crate::search::Search;
 use crate::taker::Taker;
 use hit_report::push_refused;
-use htss_defs::{Mol, Name, OutOfMemory, Query};
+use htss_defs::{Adjacency, Mol, Name, OutOfMemory, Query};
 use std::alloc::Global;
 
 #[derive(Drop)]
@@ -68,9 +68,15 @@ impl<'a> Taker for FindTaker<'a> {
 
     ghost taken = { λ t. t.place };
 
-    fn accept(&mut self, place: u32, name: &Name, mol: &Mol) -> Result<(), OutOfMemory> {
+    fn accept(
+        &mut self,
+        place: u32,
+        name: &Name,
+        mol: Mol,
+        graph: &Adjacency,
+    ) -> Result<(), OutOfMemory> {
         self.place = place;
-        self.search.take(name, mol)
+        self.search.take(name, mol, graph)
     }
 
     fn refuse(&mut self, place: u32, line: u64, code: u8) -> Result<(), OutOfMemory> {

@@ -10,8 +10,8 @@ ghost use Rattle.command_ends.specs.Stops.{IsStopOfFile};
 
 use crate::taker::Taker;
 use command_ends::{Stop, read_stop};
-use ctfile::{Next, RecordReader};
-use htss_defs::OutOfMemory;
+use ctfile::{Next, UnmarkedReader};
+use htss_defs::{Adjacency, OutOfMemory};
 use outside::{PIECE_SIZE, Shelf, read_piece};
 use std::alloc::Global;
 
@@ -33,9 +33,10 @@ pub fn read_list<'a, F: Shelf, T: Taker>(
     ensures goes_on { ShelfGoesOn
         (seen F.told F.absent F.faults shelf.old) (seen F.told F.absent F.faults shelf.new) }
 {
-    let Ok(mut reader) = RecordReader::new(alloc) else {
+    let Ok(mut reader) = UnmarkedReader::new(alloc) else {
         return Err(Stop::Memory);
     };
+    let mut graph = Adjacency::new();
     let mut piece = [0; PIECE_SIZE];
     let mut offset = 0;
     loop {
@@ -44,22 +45,23 @@ pub fn read_list<'a, F: Shelf, T: Taker>(
             Ok(count) => count,
             Err(stop) => return Err(read_stop(stop, name)),
         };
-        match take_piece(&mut reader, &piece[..count], taker) {
+        match take_piece(&mut reader, &mut graph, &piece[..count], taker) {
             Ok(()) => {}
             Err(OutOfMemory) => return Err(Stop::Memory),
         }
         offset += count;
     }
     reader.finish();
-    match drain(&mut reader, taker) {
+    match drain(&mut reader, &mut graph, taker) {
         Ok(()) => Ok(()),
         Err(OutOfMemory) => Err(Stop::Memory),
     }
 }
 
-/// Feeds a piece, and hands on the records that are whole then.
+/// Feeds a piece, and hands on the records that are whole then, each with its graph.
 pub fn take_piece<T: Taker>(
-    reader: &mut RecordReader,
+    reader: &mut UnmarkedReader,
+    graph: &mut Adjacency,
     piece: &[u8],
     taker: &mut T,
 ) -> Result<(), OutOfMemory>
@@ -75,11 +77,15 @@ pub fn take_piece<T: Taker>(
         → (all : List Outcome) × HasRead (stream ++ piece.now) all reader.new × T.holds taker.new all) }
 {
     reader.feed(piece)?;
-    drain(reader, taker)
+    drain(reader, graph, taker)
 }
 
-/// Hands on the records that the reader has.
-pub fn drain<T: Taker>(reader: &mut RecordReader, taker: &mut T) -> Result<(), OutOfMemory>
+/// Hands on the records that the reader has, each with its graph.
+pub fn drain<T: Taker>(
+    reader: &mut UnmarkedReader,
+    graph: &mut Adjacency,
+    taker: &mut T,
+) -> Result<(), OutOfMemory>
     requires { T.taken taker.old ≡ reader.old.place }
     ensures asked { OnOk result (T.asked taker.new ≡ T.asked taker.old) }
     ensures taken { OnOk result (T.taken taker.new ≡ reader.new.place) }
@@ -92,8 +98,8 @@ pub fn drain<T: Taker>(reader: &mut RecordReader, taker: &mut T) -> Result<(), O
         → (all : List Outcome) × HasRead stream all reader.new × T.holds taker.new all) }
 {
     loop {
-        match reader.next_record()? {
-            Next::Accepted { place, name, mol } => taker.accept(place, &name, &mol)?,
+        match reader.next_unmarked(graph)? {
+            Next::Accepted { place, name, mol } => taker.accept(place, &name, mol, graph)?,
             Next::Refused { place, line, code } => taker.refuse(place, line, code)?,
             Next::NeedMore | Next::End => return Ok(()),
         }

@@ -5,8 +5,8 @@ ghost use Rattle.ctfile.specs.RecordList.{IsRecordList};
 
 use crate::list::{drain, take_piece};
 use crate::taker::Taker;
-use ctfile::RecordReader;
-use htss_defs::OutOfMemory;
+use ctfile::UnmarkedReader;
+use htss_defs::{Adjacency, OutOfMemory};
 use outside::PIECE_SIZE;
 use std::alloc::Global;
 
@@ -19,14 +19,15 @@ pub fn read_back<T: Taker>(alloc: Global, bytes: &[u8], taker: &mut T) -> Result
         × IsRecordList bytes.now outcomes × T.holds taker.new outcomes) }
     ensures asked { OnOk result (T.asked taker.new ≡ T.asked taker.old) }
 {
-    let mut reader = RecordReader::new(alloc)?;
+    let mut reader = UnmarkedReader::new(alloc)?;
+    let mut graph = Adjacency::new();
     let mut rest = bytes;
     while !rest.is_empty() {
         let (piece, more) = rest.split_at(rest.len().min(PIECE_SIZE));
-        take_piece(&mut reader, piece, taker)?;
+        take_piece(&mut reader, &mut graph, piece, taker)?;
         rest = more;
     }
     reader.finish();
-    drain(&mut reader, taker)?;
+    drain(&mut reader, &mut graph, taker)?;
     Ok(())
 }

@@ -1,7 +1,8 @@
 // A search of records that come one after the other, under one budget for all of them.
 ghost use Rattle.std.specs.Prelude.{◌≡◌, ℕ, ◌+◌, ◌-◌, ◌^◌, ◌<◌, ◌≤◌, ◌++◌, ◌∷◌, List, [], Some, length, OnOk};
 ghost use Rattle.htss_defs.specs.declared.record.NamedMol.{NamedMol};
-ghost use Rattle.htss_defs.specs.Marked.{IsMarked};
+ghost use Rattle.htss_defs.specs.Marked.{IsMarked, unmarked_molecule};
+ghost use Rattle.htss_defs.specs.Molecule.{Molecule, molecule_graph};
 ghost use Rattle.htss_defs.specs.History.{publications};
 ghost use Rattle.htss_defs.specs.Reply.{Reply, IsReply};
 ghost use Rattle.env_cover.specs.Screening.{HasCover, Screens};
@@ -11,9 +12,10 @@ ghost use Rattle.tool_commands.specs.Searches.{HitsHold, SearchHolds};
 use arrayvec::ArrayVec;
 use embed::{Found, Matcher};
 use env_code::Coder;
-use env_cover::{Needs, has_cover, law_of_cover};
+use env_cover::{Needs, allows_some, has_cover, law_of_cover};
 use hit_report::{push_count, push_hit, push_overbudget};
-use htss_defs::{Mol, Name, Need, OutOfMemory, Query};
+use htss_defs::{Adjacency, Mol, Name, Need, OutOfMemory, Query};
+use ring_bonds::RingMarker;
 use std::alloc::Global;
 
 /// A search for a query. Records are screened by the codes of their atoms first. Once the budget is spent none is
@@ -25,7 +27,9 @@ pub struct Search<'a> {
     pivot: u16,
     // of the pivot
     need: Need,
-    // loaded with each record that has an element for the pivot
+    // what the ring bonds are marked in of each record that has an element for the pivot
+    marker: RingMarker,
+    // loaded with each of these
     coder: Coder,
     map: ArrayVec<u16, 64>,
     budget: u64,
@@ -58,6 +62,7 @@ impl<'a> Search<'a> {
             matcher: Matcher::new(query),
             pivot,
             need: needs.need(pivot),
+            marker: RingMarker::new(),
             coder: Coder::new(),
             map: ArrayVec::new(),
             budget,
@@ -68,26 +73,35 @@ impl<'a> Search<'a> {
         }
     }
 
-    /// Takes the next record.
-    pub fn take(&mut self, name: &Name, mol: &Mol) -> Result<(), OutOfMemory>
+    /// Takes the next record, its bonds unmarked, with its graph. They are marked where it has an element for the
+    /// pivot: no other record is searched.
+    pub fn take(&mut self, name: &Name, mol: Mol, graph: &Adjacency) -> Result<(), OutOfMemory>
         requires room { self.old.number < 2 ^ 32 - 1 }
-        requires marked { IsMarked mol.now }
+        requires graph { graph.now ≡ molecule_graph mol }
         ensures number { self.new.number ≡ self.old.number + 1 }
         ensures asked { self.new.matcher ≡ self.old.matcher }
         ensures budget { self.new.budget ≡ self.old.budget }
         ensures holds { OnOk result ((records : List NamedMol) → length records ≡ self.old.number
+            → (marked : Molecule) → IsMarked marked → unmarked_molecule marked ≡ unmarked_molecule mol
             → SearchHolds self.old.matcher self.old.budget self.old.left self.old.lines.items self.old.count records
             → SearchHolds self.old.matcher self.old.budget self.new.left self.new.lines.items self.new.count
-            (records ++ record { name = name.now; mol = mol.now } ∷ [])) }
+            (records ++ record { name = name.now; mol = marked } ∷ [])) }
     {
         self.number += 1;
         let Some(left) = self.left else {
             return Ok(());
         };
-        if !has_cover(&mut self.coder, &self.need, mol) {
+        // that the molecule keeps its rules, for the law
+        let _atoms = mol.atoms();
+        if !allows_some(&self.need, &mol) {
             return Ok(());
         }
-        self.search(left, name, mol)
+        let mut mol = mol;
+        self.marker.mark(&mut mol, graph);
+        if !has_cover(&mut self.coder, &self.need, &mol) {
+            return Ok(());
+        }
+        self.search(left, name, &mol)
     }
 
     // Searches a record that is screened, with what is left of the budget.

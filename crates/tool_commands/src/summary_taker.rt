@@ -12,7 +12,8 @@ use crate::taker::Taker;
 use arrayvec::ArrayVec;
 use embed::Matcher;
 use hit_report::{append_bytes, append_spaced};
-use htss_defs::{Mol, Name, OutOfMemory, Query};
+use htss_defs::{Adjacency, Mol, Name, OutOfMemory, Query};
+use ring_bonds::RingMarker;
 use std::alloc::Global;
 
 /// Counts the accepted records, their atoms and bonds, and those into which the query embeds.
@@ -20,6 +21,8 @@ use std::alloc::Global;
 pub struct SummaryTaker<'a> {
     matcher: Matcher<'a>,
     map: ArrayVec<u16, 64>,
+    // what the ring bonds of each record are marked in
+    marker: RingMarker,
     records: u32,
     atoms: u64,
     bonds: u64,
@@ -43,6 +46,7 @@ impl<'a> SummaryTaker<'a> {
         SummaryTaker {
             matcher: Matcher::new(query),
             map: ArrayVec::new(),
+            marker: RingMarker::new(),
             records: 0,
             atoms: 0,
             bonds: 0,
@@ -78,8 +82,16 @@ impl<'a> Taker for SummaryTaker<'a> {
 
     ghost taken = { λ t. t.place };
 
-    fn accept(&mut self, place: u32, _name: &Name, mol: &Mol) -> Result<(), OutOfMemory> {
-        let found = self.matcher.first_map(mol, &mut self.map);
+    fn accept(
+        &mut self,
+        place: u32,
+        _name: &Name,
+        mol: Mol,
+        graph: &Adjacency,
+    ) -> Result<(), OutOfMemory> {
+        let mut mol = mol;
+        self.marker.mark(&mut mol, graph);
+        let found = self.matcher.first_map(&mol, &mut self.map);
         self.records += 1;
         self.atoms += mol.atoms().len() as u64;
         self.bonds += mol.bonds().len() as u64;

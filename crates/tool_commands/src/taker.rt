@@ -1,10 +1,11 @@
 // What takes the records of a file, one after the other.
 ghost use Rattle.std.specs.Prelude.{◌≡◌, ℕ, ◌+◌, ◌++◌, ◌∷◌, [], List, Option, length, OnOk};
-ghost use Rattle.htss_defs.specs.Marked.{IsMarked};
+ghost use Rattle.htss_defs.specs.Marked.{IsMarked, unmarked_molecule};
+ghost use Rattle.htss_defs.specs.Molecule.{Molecule, molecule_graph};
 ghost use Rattle.mol_section.specs.SectionRecord.{Outcome, accepted, refused};
 ghost use Rattle.tool_commands.specs.Searches.{Asked};
 
-use htss_defs::{Mol, Name, OutOfMemory};
+use htss_defs::{Adjacency, Mol, Name, OutOfMemory};
 
 /// Takes the records of a file in their order.
 pub trait Taker {
@@ -17,13 +18,20 @@ pub trait Taker {
     /// How many records were taken.
     ghost taken: { Self → ℕ };
 
-    /// Takes a record that is accepted.
-    fn accept(&mut self, place: u32, name: &Name, mol: &Mol) -> Result<(), OutOfMemory>
+    /// Takes a record that is accepted, its bonds unmarked, with the graph of its molecule. What is kept is right for
+    /// the marked one.
+    fn accept(
+        &mut self,
+        place: u32,
+        name: &Name,
+        mol: Mol,
+        graph: &Adjacency,
+    ) -> Result<(), OutOfMemory>
         requires next { place ≡ taken self.old + 1 }
-        requires marked { IsMarked mol.now }
+        requires graph { graph.now ≡ molecule_graph mol }
         ensures holds { OnOk result ((outcomes : List Outcome) → length outcomes ≡ taken self.old
-            → holds self.old outcomes
-            → holds self.new (outcomes ++ accepted name.now mol.now ∷ [])) }
+            → (marked : Molecule) → IsMarked marked → unmarked_molecule marked ≡ unmarked_molecule mol
+            → holds self.old outcomes → holds self.new (outcomes ++ accepted name.now marked ∷ [])) }
         ensures asked { OnOk result (asked self.new ≡ asked self.old) }
         ensures taken { OnOk result (taken self.new ≡ place) };
 

@@ -15,4 +15,4 @@ invariant_of-result c =
     record { counted = search arith; screens = subst (λ x. Screens x p c.need.result) (sym c.new.ensures) made }
 
 pub returns-clause-holds : goal.returns-clause-holds
-returns-clause-holds c = rw c.new-4.ensures.items (HitsHold-none c.args.query.now c.args.budget)
+returns-clause-holds c = rw c.new-5.ensures.items (HitsHold-none c.args.query.now c.args.budget)
