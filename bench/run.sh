@@ -1,6 +1,7 @@
 #!/usr/bin/env bash
 # How fast files are made, and how fast scripts are run: `make` into a file, `make --summary`, and `run` of a script that loads the
-# made file, and of one that then searches it for a ring that each record has. Best of five runs each, the same files in one run.
+# made file, and of one that then searches it for a ring that each record has; and what an empty script takes, by the program and
+# by `htss`, which asks for large pages. Best of five runs each, the same files in one run.
 # Usage: bench/run.sh [RECORDS]
 set -u
 here=$(cd "$(dirname "$0")" && pwd)
@@ -20,3 +21,6 @@ report 'htss check' "$(best "$program" check made.sdf)"
 report 'htss run: load' "$(best "$program" run load.txt)"
 report 'htss run: load, search' "$(best "$program" run search.txt)"
 "$program" run search.txt | grep '^hits'
+printf '' >nothing.txt
+echo "an empty script, by the program: $(best "$program" run nothing.txt) us"
+echo "an empty script, by htss:        $(best "$here/../htss" run nothing.txt) us"
