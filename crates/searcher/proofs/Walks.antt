@@ -7,7 +7,6 @@ use Rattle.std.proofs.Common.{lt_of_not-le}
 use Rattle.std.specs.Prelude.{Option, Some, None, Result, Ok, IfSome, Contains}
 use Rattle.std.specs.List.Sorted.{IsNonDecreasing}
 use Rattle.htss_defs.specs.declared.out_of_memory.OutOfMemory.{OutOfMemory}
-use Rattle.htss_defs.specs.declared.needs.Need.{Need}
 use Rattle.board_core.specs.declared.log.LogAccount.{LogAccount}
 use Rattle.searcher.specs.declared.live.Live.{Live}
 use Rattle.htss_defs.specs.declared.shape.Shape.{Shape}
@@ -19,7 +18,7 @@ use Rattle.htss_defs.specs.HitLists.{HitsKept}
 use Rattle.htss_defs.specs.History.{IsLive}
 use Rattle.htss_defs.specs.Screened.{IsScreened}
 use Rattle.htss_defs.specs.Reply.{IsReply, found, over_budget}
-use Rattle.env_cover.specs.Screening.{Screens}
+use Rattle.screen.specs.Losing.{LosesNone}
 use Rattle.reg_model.specs.Searches.{HasSearched, IsOverTo, Counts}
 use Rattle.reg_model.proofs.Searching.{found-reply, found-counts, over-reply, searched-none, searched-none_live}
 use Rattle.board_core.specs.declared.account.Account.{Account}
@@ -80,13 +79,13 @@ pub record IsNext (numbers : List ℕ) (index last number : ℕ) : Type 0 where
   pub after : last < number
 
 -- so no record between them is screened
-unscreened : (q : QueryGraph) (pivot : ℕ) (need : Need) (k : Shape) (p : Parts) (a : Account) (front : ℕ) (numbers : List ℕ) (last next : ℕ) → Screens q pivot need → MayBe k p a → front ≤ length (history_of k p) → AllScreened q numbers (take front (history_of k p))
+unscreened : (q : QueryGraph) (k : Shape) (p : Parts) (a : Account) (front : ℕ) (numbers : List ℕ) (last next : ℕ) → LosesNone q → MayBe k p a → front ≤ length (history_of k p) → AllScreened q numbers (take front (history_of k p))
     → ((n : ℕ) → last < n → n ≤ next → Contains numbers n → ⊥) → AreUnscreened q (take front (history_of k p)) last next
-unscreened q pivot need k p a front numbers last next screens m few all apart = record {
+unscreened q k p a front numbers last next law m few all apart = record {
   none = none;
   embeds = λ number name mol past within live.
       let marked = live_marked k p a front number name mol m few live in
-      screens.none mol marked.0 marked.1 (none number name mol past within live);
+      law.none mol marked.0 marked.1 (none number name mol past within live);
 }
   where
     none : (number : ℕ) (name : List ℕ) (mol : Molecule) → last < number → number ≤ next → IsLive (take front (history_of k p)) number name mol → IsScreened q mol → ⊥
@@ -108,12 +107,12 @@ not_past numbers last front passed n past within (i, inside, is) =
     let low = passed i inside in absurd (omega arith)
 
 -- the search may go up to the number before the next
-module _ (k : Shape) (a : Account) (query : QueryGraph) (front budget last : ℕ) (asked : QueryGraph) (own left count : ℕ) (hits : HitsKept) (w : Walked k a query front budget last asked own left count hits) (pivot : ℕ) (need : Need) (screens : Screens asked pivot need) (numbers : List ℕ) where
+module _ (k : Shape) (a : Account) (query : QueryGraph) (front budget last : ℕ) (asked : QueryGraph) (own left count : ℕ) (hits : HitsKept) (w : Walked k a query front budget last asked own left count hits) (law : LosesNone query) (numbers : List ℕ) where
   walked_up : (b : Account) (index number : ℕ) → Grows a b → front ≤ b.log.seen → Whatever k b front (AllScreened query numbers) → IsNext numbers index last number → Whatever k b front (λ h. HasSearched asked h budget left (number - 1) count hits.hits)
   walked_up b index number grown seen all next p m =
       let few = seen_within k p b m front seen in
       let after = next.after in
-      let none = unscreened query pivot need k p b front numbers last (number - 1) (subst (λ (g : QueryGraph). Screens g pivot need) w.asked_is screens) m few (all p m) (not_between numbers index last number next) in
+      let none = unscreened query k p b front numbers last (number - 1) law m few (all p m) (not_between numbers index last number next) in
       subst (λ (g : QueryGraph). HasSearched g (take front (history_of k p)) budget left (number - 1) count hits.hits) (sym w.asked_is)
       (searched_skipped query (take front (history_of k p)) budget left last (number - 1) count hits.hits (omega arith) none (w.has p (board_before k a b grown p m)))
 
@@ -134,7 +133,7 @@ module _ (k : Shape) (a : Account) (query : QueryGraph) (front budget last : ℕ
         let few = seen_within k p b m front seen in
         let after = next.after in
         let over = spends p m budget (number - 1) (omega arith) (walked_up b index number grown seen all next p m) in
-        over-reply query pivot need (take front (history_of k p)) budget number (subst (λ (g : QueryGraph). Screens g pivot need) w.asked_is screens) (omega (arith, early, length-take-le front (history_of k p) few))
+        over-reply query (take front (history_of k p)) budget number (omega (arith, early, length-take-le front (history_of k p) few))
         (subst (λ (g : QueryGraph). IsOverTo g (take front (history_of k p)) budget number) w.asked_is over);
   }
 
@@ -149,7 +148,7 @@ module _ (k : Shape) (a : Account) (query : QueryGraph) (front budget last : ℕ
       whole : (p : Parts) → MayBe k p a → HasSearched query (take front (history_of k p)) budget left front count hits.hits
       whole p m =
           let few = seen_within k p a m front seen in
-          let none = unscreened query pivot need k p a front numbers last front (subst (λ (g : QueryGraph). Screens g pivot need) w.asked_is screens) m few (all p m) (not_past numbers last front passed) in
+          let none = unscreened query k p a front numbers last front law m few (all p m) (not_past numbers last front passed) in
           searched_skipped query (take front (history_of k p)) budget left last front count hits.hits early none (w.has p m)
 
 -- ---- the numbers that were passed

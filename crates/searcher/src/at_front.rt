@@ -154,6 +154,8 @@ fn fill(
         × Replies board.now.shape caller.new.account query.now budget front over_budget }
 {
     let mut search = Search::new(front, query, budget);
+    // that those between the numbers may be passed over
+    search.law_of_screening();
     let mut words = [0; 7200];
     let mut last = 0;
     for index in 0..numbers.len() {

@@ -2,14 +2,12 @@
 use Rattle.std.proofs.Common.{◌≡◌, ℕ, ◌+◌, ◌<◌, ◌≤◌, List, [], ◌∷◌, ◌++◌, length, take, refl, sym, ap, subst, ◌∙◌, arith}
 use Rattle.std.proofs.lemmas.List.{length-take-le}
 use Rattle.htss_defs.specs.declared.history.Event.{Event}
-use Rattle.htss_defs.specs.declared.needs.Need.{Need}
 use Rattle.htss_defs.specs.Molecule.{Molecule}
 use Rattle.htss_defs.specs.QueryGraph.{QueryGraph}
 use Rattle.htss_defs.specs.Cost.{cost}
 use Rattle.htss_defs.specs.Screened.{IsScreened}
 use Rattle.htss_defs.specs.History.{IsLive}
 use Rattle.htss_defs.specs.Reply.{Numbered, IsReply, over_budget, work}
-use Rattle.env_cover.specs.Screening.{Screens}
 use Rattle.reg_model.specs.Searches.{IsOverTo}
 use Rattle.reg_model.proofs.Searching.{live-one, over-reply, work_push}
 use Rattle.reg_model.proofs.Prefixes.{screened_to-all, screened_to-more, screened_to-none, screened_to-passed}
@@ -92,14 +90,14 @@ weighs-next told q front budget index asked asked' left left' w same pays = reco
       subst (λ (g : QueryGraph). HasWeighed g (take front history) budget left' (index + 1)) w.asked_is (pays history budget index refl tells before);
 }
 
-pub weighs-over : (told : Told) (q : QueryGraph) (front budget index : ℕ) (asked : QueryGraph) (left pivot : ℕ) (need : Need) → Weighs told q front budget index asked left → Screens asked pivot need → front ≤ length told.lines.now → index < front
+pub weighs-over : (told : Told) (q : QueryGraph) (front budget index : ℕ) (asked : QueryGraph) (left : ℕ) → Weighs told q front budget index asked left → front ≤ length told.lines.now → index < front
     → Spends told asked front (index + 1) left → (history : List Event) → Tells told history → IsReply q budget (take front history) over_budget
-weighs-over told q front budget index asked left pivot need w screens few within spends history tells =
+weighs-over told q front budget index asked left w few within spends history tells =
     let long = same_length tells.named history told.lines.now tells.history_is in
     let less : front ≤ length history = omega (arith, long, few) in
     let before = subst (λ (g : QueryGraph). HasWeighed g (take front history) budget left index) (sym w.asked_is) (w.has history tells) in
     let over = subst (λ (g : QueryGraph). IsOverTo g (take front history) budget (index + 1)) w.asked_is (spends history budget index refl tells before) in
-    over-reply q pivot need (take front history) budget (index + 1) (subst (λ (g : QueryGraph). Screens g pivot need) w.asked_is screens) (omega (arith, within, length-take-le front history less)) over
+    over-reply q (take front history) budget (index + 1) (omega (arith, within, length-take-le front history less)) over
 
 pub weighs-within : (told : Told) (q : QueryGraph) (front budget index : ℕ) (asked : QueryGraph) (left : ℕ) → Weighs told q front budget index asked left → front ≤ length told.lines.now → front ≤ index
     → (history : List Event) → Tells told history → IsReply q budget (take front history) over_budget → ⊥

@@ -4,17 +4,14 @@ ghost use Rattle.htss_defs.specs.declared.history.Event.{Event};
 ghost use Rattle.htss_defs.specs.History.{IsLive};
 ghost use Rattle.htss_defs.specs.Marked.{IsMarked};
 ghost use Rattle.htss_defs.specs.Reply.{IsReply, over_budget};
-ghost use Rattle.env_cover.specs.Screening.{Screens};
 ghost use Rattle.reg_model.specs.Searches.{IsOverTo};
 ghost use Rattle.told_history.specs.Telling.{IsWhole, Tells};
 ghost use Rattle.told_history.specs.Weighing.{HasWeighed};
 
 use crate::live::live_record;
 use crate::told::Told;
-use embed::Matcher;
-use env_code::Coder;
-use env_cover::{Needs, has_cover, law_of_cover};
-use htss_defs::{Mol, Need, Query};
+use htss_defs::{Mol, Query};
+use screen::Screener;
 
 /// Whether a search of the query at this front may answer that its work exceeds the budget.
 #[inline(never)]
@@ -62,15 +59,8 @@ fn weigh_told(weighing: &mut Weighing<'_>, told: &Told<'_>, number: u32, front: 
 // What is left of a budget that pays for the work of a query in the records that are taken.
 #[derive(Drop)]
 struct Weighing<'a> {
-    matcher: Matcher<'a>,
-    // of the record at hand
-    coder: Coder,
-    // the atom of the query that is looked for first
-    pivot: u16,
-    // of the pivot
-    need: Need,
+    matcher: Screener<'a>,
     left: u64,
-    ghost screens: { Screens matcher pivot need },
 }
 
 impl<'a> Weighing<'a> {
@@ -78,16 +68,8 @@ impl<'a> Weighing<'a> {
         ensures asked { result.matcher ≡ query.now }
         ensures left { result.left ≡ budget }
     {
-        // that the query keeps its rules and is marked, for the law
-        let _bonds = query.bonds();
-        law_of_cover();
-        let needs = Needs::new(query);
-        let pivot = needs.pivot();
         Weighing {
-            matcher: Matcher::new(query),
-            coder: Coder::new(),
-            pivot,
-            need: needs.need(pivot),
+            matcher: Screener::new(query),
             left: budget,
         }
     }
@@ -103,7 +85,7 @@ impl<'a> Weighing<'a> {
             → IsLive history number name mol.now → HasWeighed self.old.matcher history budget self.old.left k
             → IsOverTo self.old.matcher history budget number }
     {
-        if !has_cover(&mut self.coder, &self.need, mol) {
+        if !self.matcher.screens(mol) {
             return true;
         }
         match self.matcher.cost_of(mol, self.left) {

@@ -5,32 +5,24 @@ ghost use Rattle.htss_defs.specs.Marked.{IsMarked, unmarked_molecule};
 ghost use Rattle.htss_defs.specs.Molecule.{Molecule, molecule_graph};
 ghost use Rattle.htss_defs.specs.History.{publications};
 ghost use Rattle.htss_defs.specs.Reply.{Reply, IsReply};
-ghost use Rattle.env_cover.specs.Screening.{HasCover, Screens};
+ghost use Rattle.htss_defs.specs.Screened.{IsScreened};
 ghost use Rattle.command_ends.specs.FindText.{reply_text};
 ghost use Rattle.tool_commands.specs.Searches.{HitsHold, SearchHolds};
 
 use arrayvec::ArrayVec;
-use embed::{Found, Matcher};
-use env_code::Coder;
-use env_cover::{Needs, allows_some, has_cover, law_of_cover};
 use hit_report::{push_count, push_hit, push_overbudget};
-use htss_defs::{Adjacency, Mol, Name, Need, OutOfMemory, Query};
+use htss_defs::{Adjacency, Mol, Name, OutOfMemory, Query};
 use ring_bonds::RingMarker;
+use screen::{Found, Screener};
 use std::alloc::Global;
 
 /// A search for a query. Records are screened by the codes of their atoms first. Once the budget is spent none is
 /// searched any more, and the answer is that the budget does not allow one.
 #[derive(Drop)]
 pub struct Search<'a> {
-    matcher: Matcher<'a>,
-    // the atom of the query that is looked for first
-    pivot: u16,
-    // of the pivot
-    need: Need,
+    matcher: Screener<'a>,
     // what the ring bonds are marked in of each record that has an element for the pivot
     marker: RingMarker,
-    // loaded with each of these
-    coder: Coder,
     map: ArrayVec<u16, 64>,
     budget: u64,
     // of the budget, `None` once it is spent
@@ -42,7 +34,6 @@ pub struct Search<'a> {
     // the records
     number: u32,
     ghost counted: { count ≤ number },
-    ghost screens: { Screens matcher pivot need },
 }
 
 impl<'a> Search<'a> {
@@ -53,17 +44,9 @@ impl<'a> Search<'a> {
         ensures budget { result.budget ≡ budget }
         ensures number { result.number ≡ 0 }
     {
-        // that the query keeps its rules and is marked, for the law
-        let _bonds = query.bonds();
-        law_of_cover();
-        let needs = Needs::new(query);
-        let pivot = needs.pivot();
         Search {
-            matcher: Matcher::new(query),
-            pivot,
-            need: needs.need(pivot),
+            matcher: Screener::new(query),
             marker: RingMarker::new(),
-            coder: Coder::new(),
             map: ArrayVec::new(),
             budget,
             left: Some(budget),
@@ -93,12 +76,12 @@ impl<'a> Search<'a> {
         };
         // that the molecule keeps its rules, for the law
         let _atoms = mol.atoms();
-        if !allows_some(&self.need, &mol) {
+        if !self.matcher.allows(&mol) {
             return Ok(());
         }
         let mut mol = mol;
         self.marker.mark(&mut mol, graph);
-        if !has_cover(&mut self.coder, &self.need, &mol) {
+        if !self.matcher.screens(&mol) {
             return Ok(());
         }
         self.search(left, name, &mol)
@@ -108,7 +91,7 @@ impl<'a> Search<'a> {
     fn search(&mut self, left: u64, name: &Name, mol: &Mol) -> Result<(), OutOfMemory>
         requires room { self.old.count < self.old.number }
         requires marked { IsMarked mol.now }
-        requires covered { HasCover self.old.need mol.now }
+        requires screened { IsScreened self.old.matcher mol.now }
         ensures number { self.new.number ≡ self.old.number }
         ensures asked { self.new.matcher ≡ self.old.matcher }
         ensures budget { self.new.budget ≡ self.old.budget }

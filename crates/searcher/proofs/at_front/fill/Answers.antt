@@ -1,6 +1,8 @@
-use Rattle.std.proofs.Common.{◌≡◌, ◌+◌, length, slice_index, refl, sym, ap, ◌∙◌, arith}
+use Rattle.std.proofs.Common.{◌≡◌, ◌+◌, length, slice_index, refl, sym, ap, subst, ◌∙◌, arith}
 use Rattle.std.proofs.lemmas.Result.{err_from_is_err_and}
 use Rattle.htss_defs.specs.HitLists.{HitsKept}
+use Rattle.htss_defs.specs.QueryGraph.{QueryGraph}
+use Rattle.screen.specs.Losing.{LosesNone}
 use Rattle.searcher.specs.Walking.{AllScreened}
 use Rattle.searcher.specs.Records.{AreOfScreened}
 use Rattle.searcher.proofs.Records.{screened_more, screened_none}
@@ -15,6 +17,7 @@ use Rattle.searcher.proofs.at_front.fill.Goals as goal
 pub loop-index-init : goal.loop-index-init
 loop-index-init c = record {
   of = c.requires.fits;
+  law = subst (λ (q : QueryGraph). LosesNone q) c.new-search.ensures.asked c.law_of_screening.ensures;
   stock = refl;
   reads = reads_same c.args.caller.now.account;
   once = once_none c.args.caller.now.account;
@@ -66,7 +69,7 @@ returns-in_err-take_one-clause-over c = λ at e.
     let all = whatever_later k first b front (AllScreened c.args.query.now c.args.numbers.now) reads.grown c.requires.all in
     let next : IsNext c.args.numbers.now c.loop-index.index c.loop-index.last number = record { inside = c.loop-index-test.true; is = refl; rising = c.requires.rising; passed = i.passed; after = c.if-number-last.true } in (
       told.0 ∙ i.walked.own_is,
-      walked_over k a c.args.query.now front c.args.budget c.loop-index.last s.matcher s.front s.left s.records c.loop-index.hits i.walked s.pivot s.need s.screens c.args.numbers.now b c.loop-index.index number c.take_one.ensures.reads.grown (omega arith) early all next told.1,
+      walked_over k a c.args.query.now front c.args.budget c.loop-index.last s.matcher s.front s.left s.records c.loop-index.hits i.walked i.law c.args.numbers.now b c.loop-index.index number c.take_one.ensures.reads.grown (omega arith) early all next told.1,
     )
 
 pub loop-index-preserved : goal.loop-index-preserved
@@ -88,6 +91,7 @@ loop-index-preserved c =
           let all = whatever_later k first b front (AllScreened c.args.query.now c.args.numbers.now) reads.grown c.requires.all in
           let next : IsNext c.args.numbers.now index c.loop-index.last number = record { inside = c.loop-index-test.true; is = refl; rising = c.requires.rising; passed = i.passed; after = w.if-number-last.true } in record {
             of = w.take_one.ensures.of;
+            law = i.law;
             stock = w.take_one.ensures.stock ∙ i.stock;
             reads = reads;
             once = once_both first a b index 1 i.once w.take_one.ensures.once;
@@ -98,12 +102,13 @@ loop-index-preserved c =
             size = w.take_one.ensures.size;
             early = early;
             passed = passed_more c.args.numbers.now index c.loop-index.last number next;
-            walked = walked_more k a c.args.query.now front c.args.budget c.loop-index.last s.matcher s.front s.left s.records c.loop-index.hits i.walked s.pivot s.need s.screens c.args.numbers.now b index number
+            walked = walked_more k a c.args.query.now front c.args.budget c.loop-index.last s.matcher s.front s.left s.records c.loop-index.hits i.walked i.law c.args.numbers.now b index number
                 w.take_one.new.search.matcher w.take_one.new.search.front w.take_one.new.search.left w.take_one.new.search.records w.take_one.new.hits w.take_one.ensures.reads.grown (omega arith) all next
                 w.take_one.ensures.asked w.take_one.ensures.front w.take_one.ensures.room w.in_ok-take_one.ensures.takes;
           })
       | else-number-last w ↦ rw (w.caller-is, w.hits-is, w.search-is, w.words-is, w.last-is) record {
         of = i.of;
+        law = i.law;
         stock = i.stock;
         reads = i.reads;
         once = once_fewer first a index (index + 1) (omega arith) i.once;
@@ -128,7 +133,7 @@ returns-clause-found c =
     let still : a.log.seen ≡ front = seen_still first a front i.reads c.requires.seen in
     let all = whatever_later k first a front (AllScreened c.args.query.now c.args.numbers.now) i.reads.grown c.requires.all in
     let done = c.loop-index-test.false in
-    walked_found k a c.args.query.now front c.args.budget c.loop-index.last s.matcher s.front s.left s.records c.loop-index.hits i.walked s.pivot s.need s.screens c.args.numbers.now c.set_counts.new.self (omega arith) i.early all
+    walked_found k a c.args.query.now front c.args.budget c.loop-index.last s.matcher s.front s.left s.records c.loop-index.hits i.walked i.law c.args.numbers.now c.set_counts.new.self (omega arith) i.early all
     (λ j inside. i.passed j (omega arith)) (ap (λ (h : HitsKept). h.hits) c.set_counts.ensures) (ap (λ (h : HitsKept). h.records) c.set_counts.ensures ∙ c.records.ensures)
 
 pub returns-clause-whole : goal.returns-clause-whole

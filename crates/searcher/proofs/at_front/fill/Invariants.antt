@@ -1,5 +1,6 @@
 use Rattle.std.proofs.Common.{◌≡◌, ℕ, ◌<◌, ◌≤◌, length, slice_index}
 use Rattle.board.specs.Seated.{IsOf}
+use Rattle.screen.specs.Losing.{LosesNone}
 use Rattle.searcher.specs.Records.{ReadsScreened}
 use Rattle.searcher.specs.Searched.{LoadsOnce}
 use Rattle.searcher.specs.Walking.{Reads}
@@ -11,6 +12,7 @@ use Rattle.searcher.proofs.at_front.fill.Given as goal
 abbrev pub invariant-loop-index : goal.invariant-loop-index
 invariant-loop-index l = record {
   of : IsOf l.board l.caller;
+  law : LosesNone l.query;
   stock : l.caller.stock ≡ l.fn.caller.stock;
   reads : Reads l.fn.caller.account l.caller.account;
   once : LoadsOnce l.fn.caller.account l.caller.account l.index;

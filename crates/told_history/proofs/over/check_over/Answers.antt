@@ -11,7 +11,7 @@ loop-index-init c = record {
 pub returns-then-not-weigh_told-clause-over : goal.returns-then-not-weigh_told-clause-over
 returns-then-not-weigh_told-clause-over c = λ yes history tells.
     let w = c.loop-index.weighing in
-    weighs-over c.args.told.now c.args.query.now c.args.front c.args.budget c.loop-index.index w.matcher w.left w.pivot w.need c.loop-index.invariant w.screens c.requires.front (omega (arith, c.loop-index-test.true))
+    weighs-over c.args.told.now c.args.query.now c.args.front c.args.budget c.loop-index.index w.matcher w.left c.loop-index.invariant c.requires.front (omega (arith, c.loop-index-test.true))
     (c.weigh_told.ensures.spent c.if-not-weigh_told.true) history tells
 
 pub returns-clause-within : goal.returns-clause-within
