@@ -43,5 +43,5 @@ returns-clause-holds c =
     (λ more. λ records at marked is same holds.
     let one = one_marked c.args.mol c.mark.new.mol marked c.mark.ensures.marked c.mark.ensures.atoms c.mark.ensures.bonds is same in
     subst (λ m. SearchHolds t.matcher t.budget n.left n.lines.items n.count (records ++ record { name = c.args.name.now; mol = m } ∷ [])) one
-    (more records (ap (λ n. n + 1) (sym at)) (holds-left t.matcher t.budget t.left c.in-Some.left t.lines.items t.count records c.in-Some.is holds)))
+    ((rw c.screens.ensures.same at more) records (ap (λ n. n + 1) (sym at)) (holds-left t.matcher t.budget t.left c.in-Some.left t.lines.items t.count records c.in-Some.is holds)))
     c.search.ensures.holds
